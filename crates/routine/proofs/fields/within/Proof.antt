@@ -1,0 +1,19 @@
+use borrow.Author.Tests.{eq-eqb, ne-eqb, lt-ltb, le-ltb, le-leb, lt-leb, eqb-true, not-true, not-false}
+use Rattle.routine.specs.Test.{within, and}
+use Rattle.routine.proofs.fields.within.Statement.{statement}
+use Rattle.routine.proofs.fields.within.Tie as tie
+
+returns : tie.Need-returns
+unfolding within and
+returns c = simp (lt-leb _ _ (c .if1 .taken))
+
+returns-2 : tie.Need-returns-2
+unfolding within and
+returns-2 c = simp (le-leb _ _ (c .if1 .left))
+
+pub within-spec : {M : Type 1} → statement M
+within-spec =
+    tie.close
+    (tie.spec
+    returns
+    returns-2)

@@ -1,0 +1,12 @@
+pub mod Test
+pub mod First
+pub mod Sum
+pub mod Limits
+pub mod Refusal
+pub mod Block
+pub mod Routines
+pub mod Rules
+pub mod Calls
+pub mod Rows
+pub mod Reading
+pub mod Judging

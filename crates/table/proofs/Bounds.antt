@@ -1,0 +1,74 @@
+-- What code and proofs need of a consistent table: every word is small, and an unfinished process stands at a call.
+use mathlib.Core.Path.{_≡_, refl, sym, ap, _∙_}
+use mathlib.Core.Logic.{_≢_, _↔_}
+use mathlib.Core.List.{List}
+use Prim.Native.Nat.{ℕ, zero, suc, _+_, _≤_, _<_}
+use native.Mathlib.Omega.{arith}
+use native.Mathlib.Decide.{ℕ-discrete, decLe}
+use Rattle.routine.specs.Sum.{sum}
+use Rattle.routine.specs.Limits.{mostProcesses, mostBases, mostCalls}
+use Rattle.routine.specs.Routines.{Routines, kindNow, baseNow, modlock, decrease, reads}
+use Rattle.routine.specs.Rules.{WellFormed}
+use Rattle.table.specs.Table.{lock, nomore, count, call, phase, wake, entry}
+use Rattle.table.specs.Consistent.{held, oneIfReads, readers}
+use Rattle.routine.proofs.Sums.{sum-low, term-le}
+use Rattle.routine.proofs.Holding.{at-call, kind-end, CallNow, call-now}
+use Rattle.table.proofs.Holding.{one-small, one-reads}
+use Rattle.table.proofs.Sentences.{Marks, Consistent, ProcessConsistent}
+
+marks-small : (ph w e : ℕ) → Marks ph w e → (w ≤ 1) × (e ≤ 1)
+marks-small ph w e m = elim (decLe ph 1) [
+  | yes h ↦ omega (arith, m .none-before h)
+  | no h ↦ elim (decLe ph 5) [ yes k ↦ omega (arith, m .one (omega arith) k) | no k ↦ omega (arith, m .none-after (omega arith)) ]
+]
+
+module _ (S : Routines) (g : WellFormed S) (t : List ℕ) (o : Consistent S t) where
+  module _ (b : ℕ) (b-low : 1 ≤ b) (b-high : b ≤ S .B) where
+    pub lock-small : lock t b ≤ mostProcesses
+    lock-small = omega (arith, o .base b b-low b-high .lock-low, g .few-processes)
+
+    pub nomore-small : nomore t b ≤ 1
+    nomore-small = o .base b b-low b-high .nomore-low
+
+    -- at most N readers are counted
+    pub count-small : count t b ≤ mostProcesses
+    unfolding readers
+    count-small = omega (arith, o .base b b-low b-high .count-readers, sum-low (S .N) (λ p. oneIfReads (held S t p b)) (λ p l h. one-small (held S t p b)), g .few-processes)
+
+    -- a reader is counted
+    pub reader-counted : (p : ℕ) → 1 ≤ p → p ≤ S .N → held S t p b ≡ reads → 1 ≤ count t b
+    unfolding readers
+    reader-counted p l h r = omega (arith, o .base b b-low b-high .count-readers, term-le (S .N) (λ q. oneIfReads (held S t q b)) p l h, one-reads _ r)
+
+  module _ (p : ℕ) (p-low : 1 ≤ p) (p-high : p ≤ S .N) where
+    mine : ProcessConsistent S p (call t p) (phase t p) (wake t p) (entry t p)
+    mine = o .process p p-low p-high
+
+    pub call-small : call t p ≤ mostCalls
+    call-small = omega (arith, mine .call-low, g .few-calls p p-low p-high)
+
+    pub phase-small : phase t p ≤ 7
+    phase-small = mine .phase-low
+
+    pub wake-small : wake t p ≤ 1
+    wake-small = marks-small (phase t p) (wake t p) (entry t p) (mine .marks) .0
+
+    pub entry-small : entry t p ≤ 1
+    entry-small = marks-small (phase t p) (wake t p) (entry t p) (mine .marks) .1
+
+    pub unfinished-call : call t p ≢ S .calls p → call t p < S .calls p
+    unfinished-call n = omega (arith, mine .call-low)
+
+    -- an unfinished process stands at a call
+    pub call-there : call t p < S .calls p → CallNow S p (call t p)
+    call-there h = call-now S g p (call t p) p-low p-high h
+
+    pub kind-there : (kindNow S p (call t p) ≢ 0) ↔ (call t p < S .calls p)
+    kind-there = (at-call S p (call t p), λ h. let c = call-there h in omega arith)
+
+    -- a finished process stands in phase 0, so in another phase a process is at a call
+    pub finished-phase : S .calls p ≤ call t p → phase t p ≡ 0
+    finished-phase h = mine .end-phase (omega (arith, mine .call-low))
+
+    pub phase-call : phase t p ≢ 0 → call t p < S .calls p
+    phase-call n = elim (decLe (S .calls p) (call t p)) [ yes h ↦ absurd (n (finished-phase h)) | no h ↦ omega arith ]
