@@ -10,8 +10,8 @@ use lib.Dec.{eqb}
 use borrow.Author.Tests.{ne-eqb}
 use Rattle.routine.specs.Routines.{Routines, baseNow, modifies, reads, hold}
 use Rattle.routine.proofs.Holding.{base-now, hold-small}
-use Rattle.table.specs.Table.{call, phase}
-use Rattle.table.specs.Consistent.{markNow, effective, held, owns, oneIfReads}
+use Rattle.rules.specs.Table.{call, phase}
+use Rattle.rules.specs.Consistent.{markNow, effective, held, owns, oneIfReads}
 
 pub mark-now : (S : Routines) (p k : ℕ) → k < S .calls p → markNow S p k ≡ hold S p k (S .base p k)
 unfolding markNow

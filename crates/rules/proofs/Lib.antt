@@ -1,3 +1,4 @@
 pub mod Holding
 pub mod Sentences
 pub mod Bounds
+pub mod Orders

@@ -1,24 +1,17 @@
 -- One turn: a definition for each line of "One turn", in its order.
 use mathlib.Core.Path.{_≡_, refl}
 use mathlib.Core.Bool.{Bool, true, false, cond, not}
-use mathlib.Core.List.{List, [], _∷_, _++_}
+use mathlib.Core.List.{List}
 use Prim.Native.Nat.{ℕ, zero, suc, _+_, _-_, _≤_, _<_}
 use lib.Dec.{eqb, ltb, leb}
-use Rattle.routine.specs.declared.refusal.Refusal.{Refusal}
-use Rattle.routine.specs.Test.{and, within}
-use Rattle.routine.specs.Limits.{mostProcesses}
-use Rattle.routine.specs.Refusal.{given, firstDue}
-use Rattle.routine.specs.Routines.{Routines, routines, kindNow, baseNow, modlock, unlock, fine, hold}
-use Rattle.routine.specs.Reading.{fileRefusals}
+use Rattle.routine.specs.Test.{and}
+use Rattle.routine.specs.Routines.{Routines, kindNow, baseNow, modlock, unlock, fine}
 use Rattle.routine.specs.Judging.{isTake}
-use Rattle.table.specs.declared.Words.{Words}
-use Rattle.table.specs.Table.{lock, nomore, count, call, phase, wake, entry, wordsAt, putMarks, putWords}
-use Rattle.table.specs.Fresh.{sizeRefusal}
-use Rattle.table.specs.Consistent.{markNow, consistent}
-use Rattle.interlock.specs.declared.Answer.{Answer}
-use Rattle.interlock.specs.declared.Answer.the-variants as An
-use Rattle.interlock.specs.declared.Next.{Next}
-use Rattle.interlock.specs.declared.Next.the-variants as Nx
+use Rattle.rules.specs.declared.Words.{Words}
+use Rattle.rules.specs.Table.{lock, nomore, count, call, phase, wake, entry, wordsAt, putMarks, putWords}
+use Rattle.rules.specs.Consistent.{markNow}
+use Rattle.rules.specs.declared.Next.{Next}
+use Rattle.rules.specs.declared.Next.the-variants as Nx
 
 -- ---- the words that a turn looks at, with some of them changed
 
@@ -129,28 +122,3 @@ isMove Nx.Idle = false
 
 unfoldable pub moves : Routines → List ℕ → ℕ → Bool
 moves S t p = isMove (nextAt S t p)
-
--- ---- the call
-
--- 6: "state table is not consistent"
-unfoldable pub consistencyRefusal : List ℕ → List ℕ → Refusal
-consistencyRefusal f t = given (not (consistent (routines f) t)) 6 0 0
-
--- "1, 2, 3, 5, 6"
-unfoldable pub tableRefusals : List ℕ → List ℕ → List Refusal
-tableRefusals f t = fileRefusals f ++ (sizeRefusal t ∷ consistencyRefusal f t ∷ [])
-
--- 7: "process number is not 1 to N"
-unfoldable pub processRefusal : List ℕ → ℕ → Refusal
-processRefusal f p = given (not (within 1 (routines f .N) p)) 7 0 0
-
--- "Order: 1, 2, 3, .. 5, 6, 7 for a turn"
-unfoldable pub turnRefusal : List ℕ → List ℕ → ℕ → Refusal
-turnRefusal f t p = firstDue (tableRefusals f t ++ (processRefusal f p ∷ []))
-
--- what a turn answers, and the table that it leaves
-unfoldable pub turning : List ℕ → List ℕ → ℕ → Answer
-turning f t p = cond (eqb (turnRefusal f t p .number) 0) (cond (moves (routines f) t p) An.Moved An.Idle) (An.Refused (turnRefusal f t p))
-
-unfoldable pub turnedTable : List ℕ → List ℕ → ℕ → List ℕ
-turnedTable f t p = cond (eqb (turnRefusal f t p .number) 0) (turned (routines f) t p) t

@@ -5,39 +5,39 @@ use mathlib.Core.Logic.{_≢_}
 use mathlib.Core.List.{List}
 use Prim.Native.Nat.{ℕ, _+_, _-_, _*_, _≤_, _<_}
 use native.Mathlib.Omega.{arith}
-use lib.ListN.{length, getD, set, length-set}
+use lib.ListN.{length, getD, set, replicate, length-set}
 use lib.Seq.{getD-set-same, getD-set-other}
 use Rattle.routine.specs.Limits.{mostProcesses, mostBases, baseWords, processWords, tableWords}
-use Rattle.table.specs.declared.Words.{Words}
+use Rattle.rules.specs.declared.Words.{Words}
 
 -- "Base b, from word 3 × (b − 1): LOCK (0 or a process), NOMORE (0 or 1), COUNT (readers)"
-unfoldable pub baseAt : ℕ → ℕ → ℕ
-baseAt b j = baseWords * (b - 1) + j
+unfoldable pub baseAt : ℕ → ℕ
+baseAt b = baseWords * (b - 1)
 
 unfoldable pub lock : List ℕ → ℕ → ℕ
-lock t b = getD t (baseAt b 0) 0
+lock t b = getD t (baseAt b) 0
 
 unfoldable pub nomore : List ℕ → ℕ → ℕ
-nomore t b = getD t (baseAt b 1) 0
+nomore t b = getD t (baseAt b + 1) 0
 
 unfoldable pub count : List ℕ → ℕ → ℕ
-count t b = getD t (baseAt b 2) 0
+count t b = getD t (baseAt b + 2) 0
 
 -- "Process p, from word 48 + 4 × (p − 1): CALL (calls completed), PHASE, WAKE, ENTRY"
-unfoldable pub processAt : ℕ → ℕ → ℕ
-processAt p j = baseWords * mostBases + processWords * (p - 1) + j
+unfoldable pub processAt : ℕ → ℕ
+processAt p = baseWords * mostBases + processWords * (p - 1)
 
 unfoldable pub call : List ℕ → ℕ → ℕ
-call t p = getD t (processAt p 0) 0
+call t p = getD t (processAt p) 0
 
 unfoldable pub phase : List ℕ → ℕ → ℕ
-phase t p = getD t (processAt p 1) 0
+phase t p = getD t (processAt p + 1) 0
 
 unfoldable pub wake : List ℕ → ℕ → ℕ
-wake t p = getD t (processAt p 2) 0
+wake t p = getD t (processAt p + 2) 0
 
 unfoldable pub entry : List ℕ → ℕ → ℕ
-entry t p = getD t (processAt p 3) 0
+entry t p = getD t (processAt p + 3) 0
 
 -- the words of base b and of process p together
 unfoldable pub wordsAt : List ℕ → ℕ → ℕ → Words
@@ -53,19 +53,23 @@ wordsAt t b p = record {
 
 -- LOCK, NOMORE and COUNT of base b
 unfoldable pub putBase : List ℕ → ℕ → ℕ → ℕ → ℕ → List ℕ
-putBase t b l n c = set (set (set t (baseAt b 0) l) (baseAt b 1) n) (baseAt b 2) c
+putBase t b l n c = set (set (set t (baseAt b) l) (baseAt b + 1) n) (baseAt b + 2) c
 
 -- WAKE and ENTRY of process p
 unfoldable pub putMarks : List ℕ → ℕ → ℕ → ℕ → List ℕ
-putMarks t p w e = set (set t (processAt p 2) w) (processAt p 3) e
+putMarks t p w e = set (set t (processAt p + 2) w) (processAt p + 3) e
 
 -- CALL, PHASE, WAKE and ENTRY of process p
 unfoldable pub putProcess : List ℕ → ℕ → ℕ → ℕ → ℕ → ℕ → List ℕ
-putProcess t p k ph w e = putMarks (set (set t (processAt p 0) k) (processAt p 1) ph) p w e
+putProcess t p k ph w e = putMarks (set (set t (processAt p) k) (processAt p + 1) ph) p w e
 
 -- the words of base b and of process p
 unfoldable pub putWords : List ℕ → ℕ → ℕ → Words → List ℕ
 putWords t b p x = putProcess (putBase t b (x .lock) (x .nomore) (x .count)) p (x .call) (x .phase) (x .wake) (x .entry)
+
+-- "A fresh table is 80 zero words"
+unfoldable pub fresh : List ℕ
+fresh = replicate tableWords 0
 
 -- ---- laws, over any table of 80 words
 
@@ -169,7 +173,7 @@ pub record ProcessPut (t u : List ℕ) (p k ph w e : ℕ) : Type 0 where
 pub process-put : (t : List ℕ) (p k ph w e : ℕ) → length t ≡ tableWords → 1 ≤ p → p ≤ mostProcesses → ProcessPut t (putProcess t p k ph w e) p k ph w e
 unfolding putProcess putMarks lock nomore count call phase wake entry baseAt processAt
 process-put t p k ph w e len lo hi =
-    let s : List ℕ = set (set t (processAt p 0) k) (processAt p 1) ph in
+    let s : List ℕ = set (set t (processAt p) k) (processAt p + 1) ph in
     let slen : length s ≡ tableWords = simp length-set len in
     let m : MarksPut s (putMarks s p w e) p w e = marks-put s p w e slen lo hi in
     record {

@@ -9,12 +9,12 @@ use Rattle.routine.specs.Sum.{sum}
 use Rattle.routine.specs.Limits.{mostProcesses, mostBases, mostCalls}
 use Rattle.routine.specs.Routines.{Routines, kindNow, baseNow, modlock, decrease, reads}
 use Rattle.routine.specs.Rules.{WellFormed}
-use Rattle.table.specs.Table.{lock, nomore, count, call, phase, wake, entry}
-use Rattle.table.specs.Consistent.{held, oneIfReads, readers}
+use Rattle.rules.specs.Table.{lock, nomore, count, call, phase, wake, entry}
+use Rattle.rules.specs.Consistent.{held, oneIfReads, readers}
 use Rattle.routine.proofs.Sums.{sum-low, term-le}
 use Rattle.routine.proofs.Holding.{at-call, kind-end, CallNow, call-now}
-use Rattle.table.proofs.Holding.{one-small, one-reads}
-use Rattle.table.proofs.Sentences.{Marks, Consistent, ProcessConsistent}
+use Rattle.rules.proofs.Holding.{one-small, one-reads}
+use Rattle.rules.proofs.Sentences.{Marks, Consistent, ProcessConsistent}
 
 marks-small : (ph w e : ℕ) → Marks ph w e → (w ≤ 1) × (e ≤ 1)
 marks-small ph w e m = elim (decLe ph 1) [

@@ -10,7 +10,7 @@ use Rattle.routine.specs.First.{every}
 use Rattle.routine.specs.Sum.{sum}
 use Rattle.routine.specs.Limits.{mostProcesses, mostBases}
 use Rattle.routine.specs.Routines.{Routines, kindNow, baseNow, modlock, readlock, unlock, decrease, free, modifies, reads, fine, hold}
-use Rattle.table.specs.Table.{lock, nomore, count, call, phase, wake, entry}
+use Rattle.rules.specs.Table.{lock, nomore, count, call, phase, wake, entry}
 
 -- the mark that the completed calls alone leave on the base of the current call
 unfoldable pub markNow : Routines → ℕ → ℕ → ℕ

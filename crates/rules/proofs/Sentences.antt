@@ -12,8 +12,8 @@ use Rattle.routine.specs.First.{every, every-at, every-is}
 use Rattle.routine.specs.Limits.{mostProcesses, mostBases}
 use Rattle.routine.specs.Routines.{Routines, kindNow, baseNow, modlock, readlock, unlock, decrease, fine, hold}
 use Rattle.routine.specs.Rules.{WellFormed}
-use Rattle.table.specs.Table.{lock, nomore, count, call, phase, wake, entry}
-use Rattle.table.specs.Consistent.{markNow, callFits, completedFine, standsWell, marksAllowed, processFits, processZero, owns, lockFits, readers, baseFits, baseZero, processGood, baseGood, consistent}
+use Rattle.rules.specs.Table.{lock, nomore, count, call, phase, wake, entry}
+use Rattle.rules.specs.Consistent.{markNow, callFits, completedFine, standsWell, marksAllowed, processFits, processZero, owns, lockFits, readers, baseFits, baseZero, processGood, baseGood, consistent}
 
 -- ---- the sentences
 

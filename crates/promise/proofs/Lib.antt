@@ -1,0 +1,14 @@
+pub mod Calls
+pub mod Lines
+pub mod Steps
+pub mod Places
+pub mod Holds
+pub mod ConsistencyKept
+pub mod FreshTable
+pub mod WaitingKept
+pub mod Moving
+pub mod Standings
+pub mod NeverStuck
+pub mod BooksKept
+pub mod Kept
+pub mod Demand3

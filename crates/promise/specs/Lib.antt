@@ -1,0 +1,4 @@
+pub mod Play
+pub mod Promise
+pub mod Waiting
+pub mod Books

@@ -1,0 +1,1 @@
+// What holds of every play: theorems only, and no code.
