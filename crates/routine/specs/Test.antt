@@ -38,6 +38,14 @@ unfolding and
 and-right true b e = e
 and-right false b e = absurd (clash e refl)
 
+pub and-skip : (a b : Bool) → a ≡ true → and a b ≡ b
+unfolding and
+and-skip a b e = rw e
+
+pub and-stop : (a b : Bool) → a ≡ false → and a b ≡ false
+unfolding and
+and-stop a b e = rw e
+
 pub both : {a b : Bool} → a ≡ true → b ≡ true → and a b ≡ true
 unfolding and
 both e f = rw (e, f)
@@ -60,7 +68,7 @@ pub is-within : (low high v : ℕ) → low ≤ v → v ≤ high → within low h
 unfolding within
 is-within low high v l h = both (le-leb _ _ l) (le-leb _ _ h)
 
-and-false : (a : Bool) → and a false ≡ false
+pub and-false : (a : Bool) → and a false ≡ false
 unfolding and
 and-false true = refl
 and-false false = refl

@@ -1,20 +1,11 @@
 ghost use mathlib.Core.Path.{_≡_};
 ghost use Prim.Native.Nat.{_<_};
 ghost use lib.ListN.{length};
-ghost use Rattle.routine.specs.Test.{within};
 ghost use Rattle.routine.specs.Limits.{blockBytes, checkedBytes};
 ghost use Rattle.routine.specs.Block.{callByteGood, byteGood, badByte};
 use crate::block::wide;
+use crate::range::within;
 use crate::set::Set;
-
-fn within(low: usize, high: usize, v: usize) -> bool
-    ensures { λ r. ⌜ r ≡ within low high v ⌝ }
-{
-    if v < low {
-        return false;
-    }
-    v <= high
-}
 
 // The field rule of a byte among the calls: kind, then base.
 fn call_byte_good(bases: usize, i: usize, v: usize) -> bool

@@ -9,6 +9,7 @@ mod check;
 mod fields;
 mod file;
 pub mod holds;
+pub mod range;
 pub mod refusal;
 pub mod set;
 mod walk;

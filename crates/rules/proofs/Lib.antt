@@ -1,4 +1,5 @@
 pub mod Holding
 pub mod Sentences
 pub mod Bounds
+pub mod Moves
 pub mod Orders

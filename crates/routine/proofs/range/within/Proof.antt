@@ -1,7 +1,7 @@
 use borrow.Author.Tests.{eq-eqb, ne-eqb, lt-ltb, le-ltb, le-leb, lt-leb, eqb-true, not-true, not-false}
 use Rattle.routine.specs.Test.{within, and}
-use Rattle.routine.proofs.fields.within.Statement.{statement}
-use Rattle.routine.proofs.fields.within.Tie as tie
+use Rattle.routine.proofs.range.within.Statement.{statement}
+use Rattle.routine.proofs.range.within.Tie as tie
 
 returns : tie.Need-returns
 unfolding within and

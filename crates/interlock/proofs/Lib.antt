@@ -1,0 +1,3 @@
+mod Seen
+mod Rows
+pub mod Settled

@@ -1,0 +1,28 @@
+use borrow.Author.Tests.{eq-eqb, ne-eqb, lt-ltb, le-ltb, le-leb, lt-leb, eqb-true, leb-true, not-true, not-false}
+use native.Mathlib.Omega.{arith}
+use mathlib.Core.Path.{_≡_, refl, sym, ap, _∙_}
+use mathlib.Core.Bool.{Bool, true, false, cond, not, Bool·beq}
+use Prim.Native.Nat.{ℕ, suc, _+_, _-_, _*_, _≤_, _<_}
+use lib.Dec.{eqb, leb}
+use lib.ListN.{length, getD}
+use Rattle.interlock.specs.Holders.{baseGoodIn}
+use borrow.Author.Needs.{needs}
+use Rattle.interlock.proofs.bases.base_good.Statement.{statement}
+use Rattle.interlock.proofs.bases.base_good.Tie as tie
+
+returns : tie.Need-returns
+unfolding baseGoodIn
+returns c = c .base-fits .ensures ∙ simp (le-leb _ _ (c .before .if1 .taken))
+
+returns-2 : tie.Need-returns-2
+unfolding baseGoodIn
+returns-2 c = c .base-blank .ensures ∙ simp (lt-leb _ _ (c .before .if1 .left))
+
+pub base-good-spec : {M : Type 1} → statement M
+base-good-spec =
+    tie.close
+    (tie.spec
+    (λ c κs. search needs)
+    returns
+    (λ c κs. search needs)
+    returns-2)

@@ -1,0 +1,29 @@
+use borrow.Author.Tests.{eq-eqb, ne-eqb, lt-ltb, le-ltb, le-leb, lt-leb, eqb-true, not-true, not-false}
+use native.Mathlib.Omega.{arith}
+use mathlib.Core.Path.{_≡_, refl, sym, ap, _∙_}
+use mathlib.Core.Bool.{true, false, cond}
+use Prim.Native.Nat.{ℕ, suc, _+_, _-_, _*_, _≤_, _<_}
+use lib.ListN.{length, getD, drop}
+use Rattle.rules.specs.Turn.{withBase, toPhase, completed, lessen}
+use borrow.Author.Needs.{needs}
+use Rattle.interlock.proofs.next.lessen.Statement.{statement}
+use Rattle.interlock.proofs.next.lessen.Tie as tie
+
+returns : tie.Need-returns
+unfolding lessen withBase toPhase
+returns c = let e : c .before .before .args .w .count - 1 ≡ 0 = omega arith in simp e
+
+returns-2 : tie.Need-returns-2
+unfolding lessen withBase completed
+returns-2 c =
+    let ne : c .before .before .before .before .args .w .count - 1 ≡ 0 → ⊥ = λ z. omega arith in
+    c .completed .ensures ∙ simp (ne-eqb _ _ ne)
+
+pub lessen-spec : {M : Type 1} → statement M
+lessen-spec =
+    tie.close
+    (tie.spec
+    returns
+    (λ c. search needs)
+    (λ c κs. search needs)
+    returns-2)

@@ -1,0 +1,35 @@
+use borrow.Author.Tests.{eq-eqb, ne-eqb, lt-ltb, le-ltb, le-leb, lt-leb, eqb-true, not-true, not-false}
+use native.Mathlib.Omega.{arith}
+use mathlib.Core.Path.{_≡_, refl, sym, ap, _∙_}
+use mathlib.Core.Bool.{true, false, cond}
+use Prim.Native.Nat.{ℕ, suc, _+_, _-_, _*_, _≤_, _<_}
+use lib.ListN.{length, getD, drop}
+use Rattle.rules.specs.Turn.{retry}
+use borrow.Author.Needs.{needs}
+use Rattle.interlock.proofs.next.retry.Statement.{statement}
+use Rattle.interlock.proofs.next.retry.Tie as tie
+
+returns : tie.Need-returns
+unfolding retry
+returns c = c .to-phase .ensures ∙ simp (c .before .taken .ensures, sym (c .before .before .before .succeeds .ensures) ∙ c .before .before .if1 .taken)
+
+returns-2 : tie.Need-returns-2
+unfolding retry
+returns-2 c = c .to-phase2 .ensures ∙ simp (sym (c .before .before .before .succeeds .ensures) ∙ c .before .before .if1 .left, eq-eqb _ _ (c .before .if2 .taken))
+
+returns-3 : tie.Need-returns-3
+unfolding retry
+returns-3 c = c .to-phase3 .ensures ∙ simp (sym (c .before .before .before .succeeds .ensures) ∙ c .before .before .if1 .left, ne-eqb _ _ (c .before .if2 .left))
+
+pub retry-spec : {M : Type 1} → statement M
+retry-spec =
+    tie.close
+    (tie.spec
+    (λ c κs. search needs)
+    (λ c κs. search needs)
+    (λ c κs. search needs)
+    returns
+    (λ c κs. search needs)
+    returns-2
+    (λ c κs. search needs)
+    returns-3)

@@ -1,0 +1,34 @@
+use borrow.Author.Tests.{eq-eqb, ne-eqb, lt-ltb, le-ltb, le-leb, lt-leb, eqb-true, not-true, not-false}
+use native.Mathlib.Omega.{arith}
+use mathlib.Core.Path.{_≡_, refl, sym, ap, _∙_}
+use mathlib.Core.Bool.{Bool, true, false, cond, Bool·beq}
+use Prim.Native.Nat.{ℕ, suc, _+_, _-_, _*_, _≤_, _<_}
+use lib.Dec.{eqb, leb}
+use lib.ListN.{length, getD}
+use Rattle.routine.specs.Test.{and}
+use Rattle.routine.specs.Calls.{call-now}
+use Rattle.rules.specs.Turn.{waits}
+use borrow.Author.Needs.{needs}
+use Rattle.interlock.proofs.notify.waits.Statement.{statement}
+use Rattle.interlock.proofs.notify.waits.Tie as tie
+
+returns : tie.Need-returns
+unfolding waits and
+returns c = simp (← c .before .entry .ensures, ne-eqb _ _ (c .if1 .taken))
+
+returns-2 : tie.Need-returns-2
+unfolding waits and
+returns-2 c =
+    let a = c .before .before .before .before .before .before .before .args in
+    let e = c .before .call-at .ensures ∙ call-now _ _ _ (c .before .before .before .before .before .before .before .pre .2) (c .before .before .before .before .before .before .before .pre .3) (c .before .before .before .before .before .before .before .pre .0 .few-calls _ (c .before .before .before .before .before .before .before .pre .2) (c .before .before .before .before .before .before .before .pre .3)) in
+    simp (← c .before .before .before .before .entry .ensures, eq-eqb _ _ (c .before .before .before .if1 .left), e, c .before .before .call .ensures)
+
+pub waits-spec : {M : Type 1} → statement M
+waits-spec =
+    tie.close
+    (tie.spec
+    (λ c κs. search needs)
+    returns
+    (λ c κs. search needs)
+    (λ c κs. search needs)
+    returns-2)

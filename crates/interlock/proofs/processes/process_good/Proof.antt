@@ -1,0 +1,35 @@
+use borrow.Author.Tests.{eq-eqb, ne-eqb, lt-ltb, le-ltb, le-leb, lt-leb, eqb-true, leb-true, not-true, not-false}
+use native.Mathlib.Omega.{arith}
+use mathlib.Core.Path.{_≡_, refl, sym, ap, _∙_}
+use mathlib.Core.Bool.{Bool, true, false, cond, not, Bool·beq}
+use Prim.Native.Nat.{ℕ, suc, _+_, _-_, _*_, _≤_, _<_}
+use lib.Dec.{eqb, leb}
+use lib.ListN.{length, getD}
+use Rattle.routine.specs.Test.{and-skip, and-stop, clash}
+use Rattle.routine.specs.Routines.{routines}
+use Rattle.rules.specs.Consistent.{processGood}
+use borrow.Author.Needs.{needs}
+use Rattle.interlock.proofs.processes.process_good.Statement.{statement}
+use Rattle.interlock.proofs.processes.process_good.Tie as tie
+
+returns : tie.Need-returns
+unfolding processGood
+returns c =
+    let e = le-leb (c .before .before .before .before .args .p) (routines (c .before .before .before .before .args .file .now) .N) (omega arith) in
+    (c .process-fits .ensures .0 ∙ simp e, λ t h. c .process-fits .ensures .1 t)
+
+returns-2 : tie.Need-returns-2
+unfolding processGood
+returns-2 c =
+    let e = lt-leb (c .before .before .before .before .before .args .p) (routines (c .before .before .before .before .before .args .file .now) .N) (omega arith) in
+    (c .holding-nothing .ensures ∙ c .before .process-blank .ensures ∙ simp e, λ t h. absurd (omega arith))
+
+pub process-good-spec : {M : Type 1} → statement M
+process-good-spec =
+    tie.close
+    (tie.spec
+    (λ c κs. search needs)
+    returns
+    (λ c κs. search needs)
+    (λ c κs. search needs)
+    returns-2)

@@ -1,0 +1,145 @@
+ghost use mathlib.Core.Path.{_≡_};
+ghost use mathlib.Core.Bool.{Bool·beq};
+ghost use Prim.Native.Nat.{_-_, _≤_};
+ghost use lib.Dec.{eqb};
+ghost use lib.ListN.{length, getD};
+ghost use Rattle.routine.specs.Limits.{mostProcesses, mostBases, tableWords, setOf};
+ghost use Rattle.routine.specs.Routines.{Routines, routines, modifies};
+ghost use Rattle.rules.specs.Consistent.{oneIfReads};
+ghost use Rattle.interlock.specs.Holders.{holder, lockFitsIn, readersIn, baseFitsIn, baseGoodIn, basesGoodIn};
+ghost use Rattle.rules.specs.Table.{lock, nomore, count};
+ghost use Rattle.rules.specs.Consistent.{baseZero};
+use crate::words::count;
+use crate::words::lock;
+use crate::words::nomore;
+use crate::words::wide;
+use routine::Set;
+use routine::holds::MODIFIES;
+use routine::holds::Mark;
+use routine::holds::READS;
+use routine::holds::Row;
+use routine::holds::mark_in;
+
+// Who holds which base in which way: a row of marks for each process.
+pub(crate) type Holders = [Row; Set::PROCESSES];
+
+// How process p holds base b.
+fn holder(all: Holders, p: usize, b: usize) -> Mark
+    requires { ⌜ (1 ≤ p) × (p ≤ mostProcesses) ⌝ }
+    ensures { λ r. ⌜ r ≡ holder all p b ⌝ }
+{
+    let row = all[p - 1];
+    mark_in(row, b)
+}
+
+// Whether LOCK names p exactly where p, which holds the base with this mark, modifies it.
+fn owner_right(lock: usize, p: usize, mark: Mark) -> bool
+    ensures { λ r. ⌜ r ≡ Bool·beq (eqb lock p) (eqb mark modifies) ⌝ }
+{
+    if lock == p {
+        return mark == MODIFIES;
+    }
+    mark != MODIFIES
+}
+
+// LOCK of b is p exactly if p modifies b, else 0.
+fn lock_fits(n: usize, lock: usize, all: Holders, b: usize) -> bool
+    requires { ⌜ n ≤ mostProcesses ⌝ }
+    ensures { λ r. ⌜ r ≡ lockFitsIn n lock all b ⌝ }
+{
+    if n < lock {
+        return false;
+    }
+    let mut p = 1;
+    while p <= n {
+        if !owner_right(lock, p, holder(all, p, b)) {
+            return false;
+        }
+        p += 1;
+    }
+    true
+}
+
+fn one_if_reads(mark: Mark) -> u16
+    ensures { λ r. ⌜ r ≡ oneIfReads mark ⌝ }
+{
+    if mark == READS {
+        return 1;
+    }
+    0
+}
+
+// How many of the processes 1 to n read base b.
+fn readers(n: usize, all: Holders, b: usize) -> u16
+    requires { ⌜ n ≤ mostProcesses ⌝ }
+    ensures { λ r. ⌜ r ≡ readersIn n all b ⌝ }
+{
+    let mut sum = 0;
+    let mut p = 0;
+    while p < n {
+        p += 1;
+        sum += one_if_reads(holder(all, p, b));
+    }
+    sum
+}
+
+// Base b, 1 to B, in a file of n processes.
+fn base_fits(n: usize, table: &[u16], all: Holders, b: usize) -> bool
+    requires { ⌜ (n ≤ mostProcesses) × (length (now table) ≡ tableWords) × (1 ≤ b) × (b ≤ mostBases) ⌝ }
+    ensures { λ r. ⌜ r ≡ baseFitsIn n (now (table .entry)) all b ⌝ }
+{
+    if 1 < nomore(table, b) {
+        return false;
+    }
+    let lock = lock(table, b);
+    if !lock_fits(n, wide(lock), all, b) {
+        return false;
+    }
+    let count = count(table, b);
+    if count != readers(n, all, b) {
+        return false;
+    }
+    if lock == 0 {
+        return true;
+    }
+    count == 0
+}
+
+// Base b, above B.
+fn base_blank(table: &[u16], b: usize) -> bool
+    requires { ⌜ (length (now table) ≡ tableWords) × (1 ≤ b) × (b ≤ mostBases) ⌝ }
+    ensures { λ r. ⌜ r ≡ baseZero (now (table .entry)) b ⌝ }
+{
+    if lock(table, b) != 0 {
+        return false;
+    }
+    if nomore(table, b) != 0 {
+        return false;
+    }
+    count(table, b) == 0
+}
+
+fn base_good(set: Set, table: &[u16], all: Holders, b: usize) -> bool
+    requires { ⌜ (set .processes ≤ mostProcesses) × (length (now table) ≡ tableWords) × (1 ≤ b) × (b ≤ mostBases) ⌝ }
+    ensures { λ r. ⌜ r ≡ baseGoodIn (set .processes) (set .bases) (now (table .entry)) all b ⌝ }
+{
+    if b <= set.bases {
+        return base_fits(set.processes, table, all, b);
+    }
+    base_blank(table, b)
+}
+
+// Every base, where the processes hold what the rows say.
+pub(crate) fn bases_good(set: Set, table: &[u16], all: Holders) -> bool
+    requires { ⌜ (set .processes ≤ mostProcesses) × (length (now table) ≡ tableWords) ⌝ }
+    ensures { λ r. ⌜ r ≡ basesGoodIn (set .processes) (set .bases) (now (table .entry)) all ⌝ }
+{
+    let mut b = 1;
+    while b <= Set::BASES {
+        if !base_good(set, table, all, b) {
+            return false;
+        }
+        b += 1;
+    }
+    true
+}
