@@ -13,7 +13,7 @@ use Rattle.routine.specs.Limits.{mostProcesses, mostBases, tableWords}
 use Rattle.routine.specs.Routines.{Routines, modifies, kindNow, baseNow}
 use Rattle.routine.specs.Rules.{WellFormed}
 use Rattle.routine.proofs.Sums.{sum-one, sum-same, term-le}
-use Rattle.routine.proofs.Holding.{at-call, call-now}
+use Rattle.routine.proofs.Holding.{at-call, call-now, kind-now-high}
 use Rattle.rules.specs.declared.Words.{Words}
 use Rattle.rules.specs.Table.{lock, nomore, count, call, phase, wake, entry, wordsAt}
 use Rattle.rules.specs.Consistent.{held, owns, oneIfReads, readers, consistent}
@@ -21,7 +21,6 @@ use Rattle.rules.specs.Turn.{turned}
 use Rattle.rules.proofs.Holding.{owns-modifies, one-reads, none-reads}
 use Rattle.rules.proofs.Sentences.{ProcessConsistent, BaseConsistent, Consistent, consistent-means, means-consistent}
 use Rattle.promise.specs.Play.{oneIfMoves}
-use Rattle.promise.proofs.Calls.{kind-now-high}
 use Rattle.promise.proofs.Lines.{Line, finished, waiting, stopped, errs, takes-modlock, takes-readlock, misses, unlocks, decreases-last, decreases, enlists, retakes-modlock, retakes-readlock, remisses-modlock, remisses-readlock, delists, switches, wakes, notifies, Moves, Still, moves-or-rests, line-moves}
 use Rattle.promise.proofs.Steps.{MarksLine, kept, woken, Step, turn-line, turn-step}
 use Rattle.promise.proofs.Places.{moves-at-call, marks-woken, line-process}

@@ -83,7 +83,7 @@ module _ (p kind old : ℕ) (w : Words) where
       (λ s. let z = both-zero _ _ s in rw (m, s) (takes-modlock (eqb-true _ _ m) f (z .0) (z .1) (leaves w _ _ _ at)))
       (λ s. rw (m, s) (misses l h f (leaves w _ _ _ at))))
       (λ m. let n = eqb-false kind 1 m in by-test (and (eqb (w .lock) 0) (eqb (w .nomore) 0))
-      (λ s. let z = both-zero _ _ s in rw (m, s) (takes-readlock (omega arith) f (z .0) (z .1) (leaves w _ _ _ at)))
+      (λ s. let z = both-zero (w .lock) (w .nomore) s in rw (m, s) (takes-readlock (omega arith) f (z .0) (z .1) (leaves w _ _ _ at)))
       (λ s. rw (m, s) (misses l h f (leaves w _ _ _ at))))
 
   begin-line : w .phase ≡ 0 → modlock ≤ kind → kind ≤ decrease → fine kind old ≡ true → Along (Nx.Moved (begin p kind w))

@@ -10,6 +10,7 @@ use Rattle.routine.specs.Test.{by-test, clash}
 use Rattle.routine.specs.Limits.{tableWords}
 use Rattle.routine.specs.Routines.{Routines, kindNow, baseNow}
 use Rattle.routine.specs.Rules.{WellFormed}
+use Rattle.routine.proofs.Holding.{no-call}
 use Rattle.rules.specs.Table.{call, phase, wake, wordsAt}
 use Rattle.rules.specs.declared.Next.{Next}
 use Rattle.rules.specs.declared.Next.the-variants as Nx
@@ -17,7 +18,6 @@ use Rattle.rules.specs.Turn.{nextAt, settle, turned, isMove, moves}
 use Rattle.rules.proofs.Sentences.{Consistent}
 use Rattle.rules.proofs.Bounds.{wake-small}
 use Rattle.promise.specs.Play.{play, oneIfMoves}
-use Rattle.promise.proofs.Calls.{no-call}
 use Rattle.promise.proofs.Lines.{Rest, rest-finished, rest-waiting, rest-stopped, Moves, from-start, from-within, line-moves, line-rests, line-changes}
 use Rattle.promise.proofs.Steps.{MarksLine, kept, woken, Step, turn-line}
 use Rattle.promise.proofs.ConsistencyKept.{turn-at-call, turn-frame, turn-size, turn-sentences}

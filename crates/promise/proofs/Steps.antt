@@ -13,6 +13,7 @@ use Rattle.routine.specs.Test.{by-test, clash, both, and-left, and-right}
 use Rattle.routine.specs.Limits.{mostProcesses, mostBases, tableWords}
 use Rattle.routine.specs.Routines.{Routines, decrease, kindNow, baseNow}
 use Rattle.routine.specs.Rules.{WellFormed}
+use Rattle.routine.proofs.Holding.{kind-now-high}
 use Rattle.rules.specs.declared.Words.{Words}
 use Rattle.rules.specs.Table.{lock, nomore, count, call, phase, wake, entry, wordsAt, putBase, putMarks, putProcess, putWords, BasePut, base-put, marks-put, ProcessPut, process-put}
 use Rattle.rules.specs.Consistent.{markNow}
@@ -20,7 +21,6 @@ use Rattle.rules.specs.declared.Next.{Next}
 use Rattle.rules.specs.declared.Next.the-variants as Nx
 use Rattle.rules.specs.Turn.{waits, notified, nextAt, settle, turned, isMove, moves}
 use Rattle.promise.specs.Play.{oneIfMoves}
-use Rattle.promise.proofs.Calls.{kind-now-high}
 use Rattle.promise.proofs.Lines.{didOf, wordsLeft, Line, line, Rest, rest-finished, rest-waiting, rest-stopped, line-rests}
 
 -- what a turn of p at base b does to the marks of another process q

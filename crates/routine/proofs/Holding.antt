@@ -50,6 +50,20 @@ call-now S g p k lo hi h =
       base-high = omega (arith, base-now S p k h, g .base-high p k lo hi h);
     }
 
+-- no kind is above decrease
+pub kind-now-high : (S : Routines) → WellFormed S → (p k : ℕ) → 1 ≤ p → p ≤ S .N → kindNow S p k ≤ decrease
+kind-now-high S g p k lo hi = elim (decLe (S .calls p) k) [
+  | yes h ↦ omega (arith, kind-end S p k h)
+  | no h ↦ (let lt : k < S .calls p = omega arith in call-now S g p k lo hi lt .kind-high)
+]
+
+-- kind 0 is that of no call
+pub no-call : (S : Routines) → WellFormed S → (p k : ℕ) → 1 ≤ p → p ≤ S .N → kindNow S p k ≡ 0 → S .calls p ≤ k
+no-call S g p k lo hi z = elim (decLe (S .calls p) k) [
+  | yes h ↦ h
+  | no h ↦ (let lt : k < S .calls p = omega arith in absurd (omega (arith, call-now S g p k lo hi lt)))
+]
+
 -- ---- the marks
 
 pub mark-modlock : (kind old : ℕ) → kind ≡ modlock → mark kind old ≡ modifies
