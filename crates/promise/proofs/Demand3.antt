@@ -5,11 +5,9 @@ use mathlib.Core.List.{List}
 use Prim.Native.Nat.{ℕ, _≤_}
 use native.Mathlib.Omega.{arith}
 use borrow.Author.Tests.{eq-eqb}
-use Rattle.routine.specs.declared.Verdict.the-variants.{Passes}
 use Rattle.routine.specs.Test.{is-within}
 use Rattle.routine.specs.Refusal.{none}
 use Rattle.routine.specs.Routines.{Routines, routines}
-use Rattle.routine.specs.Judging.{judging}
 use Rattle.routine.specs.Rules.{WellFormed, KeepsRules}
 use Rattle.routine.proofs.Passing.{passed}
 use Rattle.rules.specs.Table.{fresh}
@@ -19,7 +17,7 @@ use Rattle.rules.specs.Turn.{moves, turned}
 use Rattle.rules.proofs.Orders.{due-none, due-nothing}
 use Rattle.rules.proofs.Sentences.{Consistent}
 use Rattle.promise.specs.Play.{play, movedIn, TurnsBy}
-use Rattle.promise.specs.Promise.{Promised, Promise}
+use Rattle.promise.specs.Promise.{Promised, Promise, Demand3}
 use Rattle.promise.proofs.ConsistencyKept.{lock-modifies}
 use Rattle.promise.proofs.Standings.{standing-finished, finished-standing, standing-small}
 use Rattle.promise.proofs.NeverStuck.{modifier-alone, none-stopped, never-stuck}
@@ -46,7 +44,7 @@ demand-3-rules S g js turns ts =
     }
 
 -- over a file that the judge passes, the turns of a play are never refused and keep the promise
-pub demand-3 : (f : List ℕ) → judging f ≡ Passes → (turns : List ℕ) → TurnsBy (routines f .N) turns → Promise f turns
+pub demand-3 : Demand3
 demand-3 f j turns ts =
     let g = passed f j in
     let t : List ℕ = play (routines f) fresh turns in

@@ -11,3 +11,5 @@ pub mod NeverStuck
 pub mod BooksKept
 pub mod Kept
 pub mod Demand3
+pub mod Shown
+pub mod NoHarm

@@ -1,7 +1,8 @@
 -- A play: turns in a row, and what is counted of them.
-use mathlib.Core.Bool.{cond}
+use mathlib.Core.Bool.{Bool, true, cond}
 use mathlib.Core.List.{List, [], _∷_}
 use Prim.Native.Nat.{ℕ, _+_, _≤_}
+use Rattle.routine.specs.Test.{and, within}
 use Rattle.routine.specs.Sum.{sum}
 use Rattle.routine.specs.Routines.{Routines}
 use Rattle.routine.specs.Rules.{releasesIn}
@@ -25,6 +26,11 @@ movedIn S t (p ∷ ps) = oneIfMoves S t p + movedIn S (turned S t p) ps
 pub data TurnsBy (n : ℕ) : List ℕ → Type 0 where
   no-turn : TurnsBy n []
   a-turn : {p : ℕ} {ps : List ℕ} → 1 ≤ p → p ≤ n → TurnsBy n ps → TurnsBy n (p ∷ ps)
+
+-- the same, as a test
+unfoldable pub byProcesses : ℕ → List ℕ → Bool
+byProcesses n [] = true
+byProcesses n (p ∷ ps) = and (within 1 n p) (byProcesses n ps)
 
 -- R: the number of unlock and decrease calls in the file
 unfoldable pub releases : Routines → ℕ

@@ -3,12 +3,14 @@ use mathlib.Core.Path.{_≡_}
 use mathlib.Core.Logic.{_≢_}
 use mathlib.Core.List.{List}
 use Prim.Native.Nat.{ℕ, _+_, _*_, _≤_}
+use Rattle.routine.specs.declared.Verdict.the-variants.{Passes}
 use Rattle.routine.specs.Routines.{Routines, routines, free, modifies}
+use Rattle.routine.specs.Judging.{judging}
 use Rattle.rules.specs.Table.{lock, count, call, phase, fresh}
 use Rattle.rules.specs.Consistent.{held}
 use Rattle.rules.specs.Answers.{turnRefusal}
 use Rattle.rules.specs.Standing.{standingOf}
-use Rattle.promise.specs.Play.{play, movedIn, releases}
+use Rattle.promise.specs.Play.{play, movedIn, TurnsBy, releases}
 
 -- what holds of the routines S at a table t that m moves have led to
 pub record Promised (S : Routines) (t : List ℕ) (m : ℕ) : Type 0 where
@@ -32,3 +34,7 @@ pub record Promise (f turns : List ℕ) : Type 0 where
   -- no next turn is refused
   pub not-refused : (p : ℕ) → 1 ≤ p → p ≤ routines f .N → turnRefusal f (play (routines f) fresh turns) p .number ≡ 0
   pub promised : Promised (routines f) (play (routines f) fresh turns) (movedIn (routines f) fresh turns)
+
+-- demand 3
+abbrev pub Demand3 : Type 0
+Demand3 = (f : List ℕ) → judging f ≡ Passes → (turns : List ℕ) → TurnsBy (routines f .N) turns → Promise f turns
