@@ -31,7 +31,7 @@ use Rattle.promise.proofs.Holds.{HoldLine, keeps, gets-modify, gets-rea
 pub owner-modifies : (S : Routines) (t : List ℕ) (b p : ℕ) → owns S t b p ≡ true → held S t p b ≡ modifies
 owner-modifies S t b p e = eqb-true _ _ (sym (owns-modifies S t b p) ∙ e)
 
-pub modifier-owns : (S : Routines) (t : List ℕ) (b p : ℕ) → held S t p b ≡ modifies → owns S t b p ≡ true
+modifier-owns : (S : Routines) (t : List ℕ) (b p : ℕ) → held S t p b ≡ modifies → owns S t b p ≡ true
 modifier-owns S t b p e = owns-modifies S t b p ∙ eq-eqb _ _ e
 
 -- LOCK of b is p exactly if p modifies b
@@ -80,12 +80,12 @@ module _ (S : Routines) (g : WellFormed S) (t u : List ℕ) (p b d : ℕ) (o : C
   hold-step = line-holds S p b t u (st .at-base) (mine .stands) d (st .follows)
 
   -- a process other than p holds what it held
-  pub held-other : (q c : ℕ) → 1 ≤ q → q ≢ p → held S u q c ≡ held S t q c
+  held-other : (q c : ℕ) → 1 ≤ q → q ≢ p → held S u q c ≡ held S t q c
   unfolding held
   held-other q c lo ne = rw (st .call-else q lo ne, st .phase-else q lo ne)
 
   -- a base other than b is held as it was
-  pub held-elsewhere : (q c : ℕ) → 1 ≤ q → c ≢ b → held S u q c ≡ held S t q c
+  held-elsewhere : (q c : ℕ) → 1 ≤ q → c ≢ b → held S u q c ≡ held S t q c
   held-elsewhere q c lo ne = elim (ℕ-discrete q p) [ yes e ↦ rw e (hold-step .else c ne) | no nq ↦ held-other q c lo nq ]
 
   process-kept : (q : ℕ) → 1 ≤ q → q ≤ S .N → ProcessConsistent S q (call u q) (phase u q) (wake u q) (entry u q)

@@ -22,11 +22,11 @@ use Rattle.promise.proofs.Lines.{Rest, rest-finished, rest-waiting, res
 use Rattle.promise.proofs.Steps.{MarksLine, kept, woken, Step, turn-line}
 use Rattle.promise.proofs.ConsistencyKept.{turn-at-call, turn-frame, turn-size, turn-sentences}
 
-pub one-moves : (S : Routines) (t : List ℕ) (p : ℕ) → moves S t p ≡ true → oneIfMoves S t p ≡ 1
+one-moves : (S : Routines) (t : List ℕ) (p : ℕ) → moves S t p ≡ true → oneIfMoves S t p ≡ 1
 unfolding oneIfMoves
 one-moves S t p e = rw e
 
-pub none-moves : (S : Routines) (t : List ℕ) (p : ℕ) → moves S t p ≡ false → oneIfMoves S t p ≡ 0
+none-moves : (S : Routines) (t : List ℕ) (p : ℕ) → moves S t p ≡ false → oneIfMoves S t p ≡ 0
 unfolding oneIfMoves
 none-moves S t p e = rw e
 

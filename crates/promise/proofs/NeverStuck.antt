@@ -155,7 +155,7 @@ module _ (S : Routines) (g : WellFormed S) (js : KeepsRules S) where
           ]
 
       -- so nobody waits
-      pub nobody-waits : AllFinished S t
+      nobody-waits : AllFinished S t
       nobody-waits p lo hi = elim (idle p lo hi) [ inl e ↦ e | inr w ↦ absurd (climb (suc (S .B)) p lo hi w (omega arith)) ]
 
     -- where nobody would move, every routine has finished: the standing is never 2

@@ -16,13 +16,13 @@ use Rattle.promise.proofs.Lines.{Line, Leaves, finished, waiting, stopp
 
 -- ---- no logic error, kind by kind
 
-pub take-fine : (kind old : ℕ) → kind ≤ readlock → old ≡ free → fine kind old ≡ true
+take-fine : (kind old : ℕ) → kind ≤ readlock → old ≡ free → fine kind old ≡ true
 take-fine kind old h e = fine-take kind old h ∙ eq-eqb _ _ e
 
-pub unlock-fine : (kind old : ℕ) → kind ≡ unlock → old ≡ modifies → fine kind old ≡ true
+unlock-fine : (kind old : ℕ) → kind ≡ unlock → old ≡ modifies → fine kind old ≡ true
 unlock-fine kind old h e = fine-unlock kind old h ∙ eq-eqb _ _ e
 
-pub decrease-fine : (kind old : ℕ) → kind ≡ decrease → old ≡ reads → fine kind old ≡ true
+decrease-fine : (kind old : ℕ) → kind ≡ decrease → old ≡ reads → fine kind old ≡ true
 decrease-fine kind old h e = fine-decrease kind old h ∙ eq-eqb _ _ e
 
 -- ---- the stands
@@ -39,7 +39,7 @@ at-take {kind} {old} s l h =
     record { low = s .take-low l h; high = k; freed = eqb-true _ _ (sym (fine-take kind old k) ∙ s .no-error l (omega arith)) }
 
 -- a process that stands at no call stands in phase 0
-pub no-call-start : {kind old ph : ℕ} → ph ≤ 7 → Stands kind old ph → kind ≡ 0 → ph ≡ 0
+no-call-start : {kind old ph : ℕ} → ph ≤ 7 → Stands kind old ph → kind ≡ 0 → ph ≡ 0
 no-call-start {kind} {old} {ph} h s z = elim (decLe ph 0) [
   | yes a ↦ omega arith
   | no a ↦ elim (decLe ph 5) [

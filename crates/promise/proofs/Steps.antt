@@ -107,7 +107,7 @@ module _ (S : Routines) (b : ℕ) where
         passes = λ f. (refl, refl);
       }))
 
-  pub notified-is : (n : ℕ) (t : List ℕ) → length t ≡ tableWords → n ≤ mostProcesses → Notified S b n t (notified S b t n)
+  notified-is : (n : ℕ) (t : List ℕ) → length t ≡ tableWords → n ≤ mostProcesses → Notified S b n t (notified S b t n)
   unfolding notified
   notified-is zero t len hn =
       record { rest = same-marks t; wake-above = λ q h g. refl; entry-above = λ q h g. refl; wakes = λ q l u. absurd (omega arith); passes = λ q l u. absurd (omega arith) }
@@ -146,7 +146,7 @@ notified-marks {S} {p} {b} {t} {u} o six q lo = go (decLe q (S .N)) (ℕ-discret
     go (yes a) (no c) d = (let r = o .passes q lo a (λ f g. c f) in kept (λ f g h i. c h) (r .0) (r .1))
     go (no a) c d = kept (λ f g h i. a g) (o .wake-above q lo (omega arith)) (o .entry-above q lo (omega arith))
 
-pub rest-not-notifying : {kind : ℕ} {w : Words} → Rest kind w → w .phase ≢ 6
+rest-not-notifying : {kind : ℕ} {w : Words} → Rest kind w → w .phase ≢ 6
 rest-not-notifying (rest-finished a b) = omega arith
 rest-not-notifying (rest-waiting a b) = omega arith
 rest-not-notifying (rest-stopped a) = omega arith

@@ -40,7 +40,7 @@ unfolding and
 second-fails a c m n e = rw (ne-eqb m n e) (by-test (eqb a c) (λ f. rw f refl) (λ f. rw f refl))
 
 module _ (S : Routines) (t : List ℕ) (c q : ℕ) where
-  pub notifier-is : phase t q ≡ 6 → baseNow S q (call t q) ≡ c → notifier S t c q ≡ 1
+  notifier-is : phase t q ≡ 6 → baseNow S q (call t q) ≡ c → notifier S t c q ≡ 1
   unfolding notifier
   notifier-is e f = both-tests _ _ _ _ e f
 
@@ -48,11 +48,11 @@ module _ (S : Routines) (t : List ℕ) (c q : ℕ) where
   unfolding notifier
   notifier-phase e = first-fails _ _ (baseNow S q (call t q)) c e
 
-  pub notifier-base : baseNow S q (call t q) ≢ c → notifier S t c q ≡ 0
+  notifier-base : baseNow S q (call t q) ≢ c → notifier S t c q ≡ 0
   unfolding notifier
   notifier-base e = second-fails (phase t q) 6 _ _ e
 
-  pub wanter-is : kindNow S q (call t q) ≡ modlock → baseNow S q (call t q) ≡ c → wanter S t c q ≡ 1
+  wanter-is : kindNow S q (call t q) ≡ modlock → baseNow S q (call t q) ≡ c → wanter S t c q ≡ 1
   unfolding wanter
   wanter-is e f = both-tests _ _ _ _ e f
 
@@ -64,7 +64,7 @@ module _ (S : Routines) (t : List ℕ) (c q : ℕ) where
   unfolding wanter
   wanter-base e = second-fails (kindNow S q (call t q)) modlock _ _ e
 
-  pub wanter-small : wanter S t c q ≤ 1
+  wanter-small : wanter S t c q ≤ 1
   unfolding wanter
   wanter-small = by-test (and (eqb (kindNow S q (call t q)) modlock) (eqb (baseNow S q (call t q)) c)) (λ e. rw e (omega arith)) (λ e. rw e (omega arith))
 

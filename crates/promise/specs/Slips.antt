@@ -91,14 +91,14 @@ pub record NoHarm (f turns : List ℕ) : Type 0 where
 -- ---- a slip in what a turn leaves of the words that it looks at
 
 -- what `next` says, from the process, the kind of its call, the mark on its base, and the words
-abbrev pub Step : Type 0
-Step = ℕ → ℕ → ℕ → Words → Next
+abbrev pub Rule : Type 0
+Rule = ℕ → ℕ → ℕ → Words → Next
 
-unfoldable pub leaving : Step → Routines → List ℕ → ℕ → Next
+unfoldable pub leaving : Rule → Routines → List ℕ → ℕ → Next
 leaving n S t p = n p (kindNow S p (call t p)) (markNow S p (call t p)) (wordsAt t (baseNow S p (call t p)) p)
 
 -- the interlock with n in the place of `next`
-unfoldable pub slipping : Step → Machine
+unfoldable pub slipping : Rule → Machine
 slipping n = record { after = λ S t p. settle S t p (leaving n S t p); able = λ S t p. isMove (leaving n S t p) }
 
 -- the same, but for this change to what a move leaves
@@ -109,7 +109,7 @@ but f Nx.Idle = Nx.Idle
 -- ---- the slips, one by one
 
 -- "unlock that leaves NOMORE on: after two modifiers no reader enters again"
-unfoldable pub leavesSwitch : Step
+unfoldable pub leavesSwitch : Rule
 leavesSwitch p kind old w = cond (eqb kind unlock) (but (λ x. withBase (x .lock) (w .nomore) (x .count) x) (next p kind old w)) (next p kind old w)
 
 -- 1 takes the base; 3 misses it, enlists and misses again; 1 unlocks and notifies; 3 sets the switch, wakes, takes the base, unlocks it and leaves the switch on; 2 waits to read a free base
@@ -127,7 +127,7 @@ unfoldable pub enlistAndWait : ℕ → Words → Words
 enlistAndWait kind w = toPhase (cond (eqb kind modlock) 4 5) (enlist w)
 
 -- "A wait after one try .. the wakeup falls between": between the try and enlisting
-unfoldable pub waitsAtOnce : Step
+unfoldable pub waitsAtOnce : Rule
 waitsAtOnce p kind old w = cond (eqb (w .phase) 1) (Nx.Moved (enlistAndWait kind w)) (next p kind old w)
 
 -- 1 takes the base; 2 misses it; 1 unlocks and notifies nobody; 2 enlists and waits
@@ -141,7 +141,7 @@ oneTry = record {
 }
 
 -- "or the second try before enlisting": the wakeup falls between that try and enlisting
-unfoldable pub triesFirst : Step
+unfoldable pub triesFirst : Rule
 triesFirst p kind old w =
     cond (eqb (w .phase) 1) (Nx.Moved (cond (succeeds kind w) (toPhase 3 (taken p kind w)) (toPhase 2 w)))
     (cond (eqb (w .phase) 2) (Nx.Moved (enlistAndWait kind w))
@@ -158,7 +158,7 @@ triesTooSoon = record {
 }
 
 -- "modlock that tests LOCK and forgets COUNT": it goes on as if COUNT were 0
-unfoldable pub forgetsCount : Step
+unfoldable pub forgetsCount : Rule
 forgetsCount p kind old w =
     cond (eqb kind modlock) (but (λ x. withBase (x .lock) (x .nomore) (w .count) x) (next p kind old (withBase (w .lock) (w .nomore) 0 w))) (next p kind old w)
 
@@ -194,7 +194,7 @@ onlyFirstWoken = record {
 }
 
 -- notify only if the switch was on: "otherwise a waiting reader with the switch off sleeps on"
-unfoldable pub notifiesIfOn : Step
+unfoldable pub notifiesIfOn : Rule
 notifiesIfOn p kind old w = cond (eqb (w .nomore) 0) (but (λ x. cond (eqb (x .phase) 6) (completed x) x) (next p kind old w)) (next p kind old w)
 
 -- 1 takes the base; 2 misses it, enlists, misses again and waits; 1 unlocks, and nobody is notified
