@@ -81,13 +81,14 @@ fn lessen(w: Words) -> Words
     requires { ⌜ (w .count ≤ mostProcesses) × (w .call ≤ mostCalls) ⌝ }
     ensures { λ r. ⌜ r ≡ lessen w ⌝ }
 {
-    let mut x = w;
     if w.count <= 1 {
-        x.nomore = 0;
-        x.count = 0;
-        x.phase = 6;
-        return x;
+        let mut last = w;
+        last.nomore = 0;
+        last.count = 0;
+        last.phase = 6;
+        return last;
     }
+    let mut x = w;
     x.count = w.count - 1;
     completed(x)
 }
@@ -170,10 +171,10 @@ fn await_wake(w: Words) -> Next
     ensures { λ r. ⌜ r ≡ await w ⌝ }
 {
     if w.wake == 1 {
-        let mut x = w;
-        x.wake = 0;
-        x.phase = 0;
-        return Next::Moved(x);
+        let mut woken = w;
+        woken.wake = 0;
+        woken.phase = 0;
+        return Next::Moved(woken);
     }
     Next::Idle
 }
