@@ -14,7 +14,7 @@ use Rattle.rules.specs.Consistent.{markNow, effective, held}
 use Rattle.rules.specs.Turn.{withBase, withMarks, toPhase, completed, succeeds, taken, take, release, lessen, begin, start, enlist, retry, delist, switch, await, next, waits, notified, nextAt, settle, turned, isMove, moves}
 use Rattle.rules.specs.Standing.{finished, allFinished, nobodyMoves, standingOf}
 use Rattle.promise.specs.Play.{play, oneIfMoves, movedIn, byProcesses}
-use Rattle.promise.specs.Files.{blockOf, modifierReader, modifiersReader, ring}
+use Rattle.promise.specs.Files.{blockOf, modifierReader, modifiersReader, modifiersThenReader, ring}
 use Rattle.promise.specs.Witness.{toSleep, toWake, toEnd, Contended}
 use Rattle.promise.specs.Slips.{interlock, playOf, standingIn, stuck, alone, crowded, AllHarmful, no-more, also, leaving, slipping, but, leavesSwitch, switchLeft, enlistAndWait, waitsAtOnce, oneTry, triesFirst, triesTooSoon, forgetsCount, countForgotten, firstNotified, afterFirst, wakesFirst, onlyFirstWoken, notifiesIfOn, notNotified, lastTaken, placeByLast, passesByLast, judgeByLast, ringPassed, slips}
 
@@ -27,6 +27,10 @@ modifierReader-passes = refl
 modifiersReader-passes : judging modifiersReader ≡ Passes
 unfolding blockOf modifiersReader and implies within first every sumBelow block check checkShown callByteGood byteGood badByte routines mark fine hold given firstDue lengthGood checkGood fieldsGood firstBlock forBlock fileRefusals fileRefusal isTake onlyLower callGood nothingHeld placeGood failingPlace routinePasses failingBlock passes judgement judgeRefusals judgeRefusal judging
 modifiersReader-passes = refl
+
+modifiersThenReader-passes : judging modifiersThenReader ≡ Passes
+unfolding blockOf modifiersThenReader and implies within first every sumBelow block check checkShown callByteGood byteGood badByte routines mark fine hold given firstDue lengthGood checkGood fieldsGood firstBlock forBlock fileRefusals fileRefusal isTake onlyLower callGood nothingHeld placeGood failingPlace routinePasses failingBlock passes judgement judgeRefusals judgeRefusal judging
+modifiersThenReader-passes = refl
 
 ring-passes-last : judgeByLast ring ≡ Passes
 unfolding blockOf ring lastTaken placeByLast passesByLast judgeByLast and implies within first every sumBelow block check checkShown callByteGood byteGood badByte routines mark fine hold given firstDue lengthGood checkGood fieldsGood firstBlock forBlock fileRefusals fileRefusal isTake onlyLower callGood nothingHeld placeGood failingPlace routinePasses failingBlock passes judgement judgeRefusals judgeRefusal judging
@@ -51,9 +55,9 @@ contended = record {
 -- ---- the slips
 
 pub slips-harm : AllHarmful slips
-unfolding blockOf modifierReader modifiersReader ring implies effective held byProcesses interlock playOf standingIn stuck alone crowded leaving slipping but leavesSwitch switchLeft enlistAndWait waitsAtOnce oneTry triesFirst triesTooSoon forgetsCount countForgotten firstNotified afterFirst wakesFirst onlyFirstWoken notifiesIfOn notNotified ringPassed slips and within first every block routines kindNow baseNow mark fine hold isTake baseAt lock nomore count processAt call phase wake entry wordsAt putBase putMarks putProcess putWords fresh markNow withBase withMarks toPhase completed succeeds taken take release lessen begin start enlist retry delist switch await next waits notified nextAt settle turned isMove moves finished allFinished
+unfolding blockOf modifierReader modifiersReader modifiersThenReader ring implies effective held byProcesses interlock playOf standingIn stuck alone crowded leaving slipping but leavesSwitch switchLeft enlistAndWait waitsAtOnce oneTry triesFirst triesTooSoon forgetsCount countForgotten firstNotified afterFirst wakesFirst onlyFirstWoken notifiesIfOn notNotified ringPassed slips and within first every block routines kindNow baseNow mark fine hold isTake baseAt lock nomore count processAt call phase wake entry wordsAt putBase putMarks putProcess putWords fresh markNow withBase withMarks toPhase completed succeeds taken take release lessen begin start enlist retry delist switch await next waits notified nextAt settle turned isMove moves finished allFinished
 slips-harm =
-    also (record { passed = modifiersReader-passes; turns-by = refl; harmed = refl })
+    also (record { passed = modifiersThenReader-passes; turns-by = refl; harmed = refl })
     (also (record { passed = modifierReader-passes; turns-by = refl; harmed = refl })
     (also (record { passed = modifierReader-passes; turns-by = refl; harmed = refl })
     (also (record { passed = modifierReader-passes; turns-by = refl; harmed = refl })

@@ -20,6 +20,13 @@ modifiersReader =
     ++ (blockOf (2 ∷ 3 ∷ 2 ∷ 1 ∷ readlock ∷ 1 ∷ decrease ∷ 1 ∷ []) 71
     ++ blockOf (3 ∷ 3 ∷ 2 ∷ 1 ∷ modlock ∷ 1 ∷ unlock ∷ 1 ∷ []) 60)
 
+-- two modifiers of base 1, and then a reader of it
+unfoldable pub modifiersThenReader : List ℕ
+modifiersThenReader =
+    blockOf (1 ∷ 3 ∷ 2 ∷ 1 ∷ modlock ∷ 1 ∷ unlock ∷ 1 ∷ []) 58
+    ++ (blockOf (2 ∷ 3 ∷ 2 ∷ 1 ∷ modlock ∷ 1 ∷ unlock ∷ 1 ∷ []) 59
+    ++ blockOf (3 ∷ 3 ∷ 2 ∷ 1 ∷ readlock ∷ 1 ∷ decrease ∷ 1 ∷ []) 72)
+
 -- process 1 takes base 1 while it modifies 2, and process 2 takes base 2 while it modifies 1; between its two takes, process 1 takes base 3 and gives it up. It does not pass
 unfoldable pub ring : List ℕ
 ring =

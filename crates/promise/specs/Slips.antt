@@ -20,7 +20,7 @@ use Rattle.rules.specs.Consistent.{markNow, held}
 use Rattle.rules.specs.Turn.{withBase, toPhase, completed, succeeds, taken, enlist, next, waits, notified, settle, turned, isMove, moves}
 use Rattle.rules.specs.Standing.{allFinished}
 use Rattle.promise.specs.Play.{byProcesses}
-use Rattle.promise.specs.Files.{modifierReader, modifiersReader, ring}
+use Rattle.promise.specs.Files.{modifierReader, modifiersReader, modifiersThenReader, ring}
 
 -- ---- machines
 
@@ -117,8 +117,8 @@ unfoldable pub switchLeft : Slip
 switchLeft = record {
   judge = judging;
   machine = slipping leavesSwitch;
-  file = modifiersReader;
-  turns = 1 ∷ 3 ∷ 3 ∷ 3 ∷ 1 ∷ 1 ∷ 3 ∷ 3 ∷ 3 ∷ 3 ∷ 3 ∷ 2 ∷ 2 ∷ 2 ∷ [];
+  file = modifiersThenReader;
+  turns = 1 ∷ 2 ∷ 2 ∷ 2 ∷ 1 ∷ 1 ∷ 2 ∷ 2 ∷ 2 ∷ 2 ∷ 2 ∷ 3 ∷ 3 ∷ 3 ∷ [];
   harm = stuck;
 }
 
