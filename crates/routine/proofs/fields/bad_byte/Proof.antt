@@ -21,10 +21,10 @@ unfolding badByte
 loop-holds c = (omega arith, refl)
 
 returns : tie.Need-returns Inv-loop μ-loop
-returns c = sym (first-here _ (c .before .before .before .loop .i) checkedBytes (c .before .before .loop-test .taken) (sym (c .before .byte-good .ensures) ∙ not-true _ (c .if1 .taken))) ∙ c .before .before .before .loop .inv .1
+returns c = sym (first-here _ (c .before .before .before .loop .i) checkedBytes (omega arith) (sym (c .before .byte-good .ensures) ∙ not-true _ (c .if1 .taken))) ∙ c .before .before .before .loop .inv .1
 
 loop-again : tie.Need-loop-again Inv-loop μ-loop
-loop-again c = (omega arith, sym (first-more _ (c .before .before .before .loop .i) checkedBytes (c .before .before .loop-test .taken) (sym (c .before .byte-good .ensures) ∙ not-false _ (c .if1 .left))) ∙ c .before .before .before .loop .inv .1)
+loop-again c = (omega arith, sym (first-more _ (c .before .before .before .loop .i) checkedBytes (omega arith) (sym (c .before .byte-good .ensures) ∙ not-false _ (c .if1 .left))) ∙ c .before .before .before .loop .inv .1)
 
 returns-2 : tie.Need-returns-2 Inv-loop μ-loop
 returns-2 c = sym (first-end _ (c .before .loop .i) checkedBytes (c .loop-test .left)) ∙ c .before .loop .inv .1
