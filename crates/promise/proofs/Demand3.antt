@@ -1,5 +1,5 @@
 -- Demand 3, over every file that the judge passes and every order of turns.
-use mathlib.Core.Path.{_≡_, refl, ap}
+use mathlib.Core.Path.{_≡_, refl, sym, ap, _∙_}
 use mathlib.Core.Bool.{cond}
 use mathlib.Core.List.{List}
 use Prim.Native.Nat.{ℕ, _≤_}
@@ -14,6 +14,7 @@ use Rattle.rules.specs.Table.{fresh}
 use Rattle.rules.specs.declared.Answer.the-variants as An
 use Rattle.rules.specs.Answers.{tableRefusal, turnRefusal, turning, turnedTable}
 use Rattle.rules.specs.Turn.{moves, turned}
+use Rattle.rules.proofs.Numbers.{answer-numbers}
 use Rattle.rules.proofs.Orders.{due-none, due-nothing}
 use Rattle.rules.proofs.Sentences.{Consistent}
 use Rattle.promise.specs.Play.{play, movedIn, TurnsBy}
@@ -51,7 +52,7 @@ demand-3 f j turns ts =
     let k = reached-kept (routines f) (g .well-formed) turns ts in
     let free : tableRefusal f t ≡ none = due-none f t (g .not-refused) (k .size) (reached-consistent (routines f) (g .well-formed) turns ts) in
     record {
-      not-refused = λ p lo hi. ap (λ r. r .number) (due-nothing f t p (ap (λ r. r .number) free) (is-within 1 (routines f .N) p lo hi));
+      not-refused = λ p lo hi. ap (λ r. r .number) (answer-numbers f t p ∙ due-nothing f t p (ap (λ r. r .number) free) (is-within 1 (routines f .N) p lo hi));
       promised = demand-3-rules (routines f) (g .well-formed) (g .keeps) turns ts;
     }
 
@@ -60,4 +61,4 @@ pub turn-called : (f turns : List ℕ) → Promise f turns → (p : ℕ) → 1 �
     → (turning f (play (routines f) fresh turns) p ≡ cond (moves (routines f) (play (routines f) fresh turns) p) An.Moved An.Idle)
     × (turnedTable f (play (routines f) fresh turns) p ≡ turned (routines f) (play (routines f) fresh turns) p)
 unfolding turning turnedTable
-turn-called f turns k p lo hi = let z = eq-eqb (turnRefusal f (play (routines f) fresh turns) p .number) 0 (k .not-refused p lo hi) in (rw z refl, rw z refl)
+turn-called f turns k p lo hi = let z = eq-eqb (turnRefusal f (play (routines f) fresh turns) p .number) 0 (ap (λ r. r .number) (sym (answer-numbers f (play (routines f) fresh turns) p)) ∙ k .not-refused p lo hi) in (rw z refl, rw z refl)

@@ -8,7 +8,7 @@ use Rattle.routine.specs.Routines.{Routines, routines, free, modifies}
 use Rattle.routine.specs.Judging.{judging}
 use Rattle.rules.specs.Table.{lock, count, call, phase, fresh}
 use Rattle.rules.specs.Consistent.{held}
-use Rattle.rules.specs.Answers.{turnRefusal}
+use Rattle.rules.specs.Answers.{turning, answerNumbers}
 use Rattle.rules.specs.Standing.{standingOf}
 use Rattle.promise.specs.Play.{play, movedIn, TurnsBy, releases}
 
@@ -32,7 +32,7 @@ pub record Promised (S : Routines) (t : List ℕ) (m : ℕ) : Type 0 where
 -- what holds after these turns over the file f, which may be any turns by 1 to N: so it holds after each turn of every play
 pub record Promise (f turns : List ℕ) : Type 0 where
   -- no next turn is refused
-  pub not-refused : (p : ℕ) → 1 ≤ p → p ≤ routines f .N → turnRefusal f (play (routines f) fresh turns) p .number ≡ 0
+  pub not-refused : (p : ℕ) → 1 ≤ p → p ≤ routines f .N → answerNumbers (turning f (play (routines f) fresh turns) p) .number ≡ 0
   pub promised : Promised (routines f) (play (routines f) fresh turns) (movedIn (routines f) fresh turns)
 
 -- demand 3

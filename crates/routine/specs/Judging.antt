@@ -11,7 +11,7 @@ use Rattle.routine.specs.Test.{implies}
 use Rattle.routine.specs.First.{firstIn, every}
 use Rattle.routine.specs.Limits.{mostBases}
 use Rattle.routine.specs.Routines.{Routines, routines, readlock, free, fine, hold}
-use Rattle.routine.specs.Refusal.{given, firstDue}
+use Rattle.routine.specs.Refusal.{none, given, firstDue}
 use Rattle.routine.specs.Reading.{firstBlock, fileRefusals}
 
 -- a modlock or readlock
@@ -61,3 +61,8 @@ judgeRefusal f = firstDue (judgeRefusals f)
 -- what the judge answers
 unfoldable pub judging : List ℕ → Verdict
 judging f = cond (eqb (judgeRefusal f .number) 0) Passes (Refused (judgeRefusal f))
+
+-- the document's number, block and call place of what the judge answers: zeros where it refuses nothing
+unfoldable pub verdictNumbers : Verdict → Refusal
+verdictNumbers Passes = none
+verdictNumbers (Refused r) = r

@@ -13,7 +13,7 @@ use Rattle.routine.specs.First.{firstIn}
 use Rattle.routine.specs.Limits.{mostProcesses, blockBytes, checkedBytes, setOf}
 use Rattle.routine.specs.Block.{block, check, checkShown, badByte}
 use Rattle.routine.specs.Routines.{Routines, routines}
-use Rattle.routine.specs.Refusal.{given, firstDue}
+use Rattle.routine.specs.Refusal.{none, given, firstDue}
 
 -- 1: "file length is 0, above 4,096 or no multiple of 512"
 unfoldable pub lengthGood : ℕ → Bool
@@ -49,3 +49,8 @@ fileRefusal f = firstDue (fileRefusals f)
 -- what the reader answers
 unfoldable pub reading : List ℕ → Reading
 reading f = cond (eqb (fileRefusal f .number) 0) (Good (setOf (routines f .N) (routines f .B))) (Refused (fileRefusal f))
+
+-- the document's number, block and call place of what the reader answers: zeros where it refuses nothing
+unfoldable pub readingNumbers : Reading → Refusal
+readingNumbers (Good s) = none
+readingNumbers (Refused r) = r

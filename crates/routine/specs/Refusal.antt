@@ -4,6 +4,7 @@ use mathlib.Core.Bool.{Bool, true, false, cond}
 use mathlib.Core.List.{List, [], _∷_, _++_}
 use Prim.Native.Nat.{ℕ}
 use lib.Dec.{eqb}
+use borrow.Author.Tests.{eqb-false}
 use Rattle.routine.specs.declared.refusal.Refusal.{Refusal}
 use Rattle.routine.specs.Test.{by-test}
 
@@ -28,3 +29,11 @@ pub due-append : (rs ss : List Refusal) → firstDue (rs ++ ss) ≡ cond (eqb (f
 unfolding firstDue
 due-append [] ss = refl
 due-append (r ∷ rs) ss = by-test (eqb (r .number) 0) (λ e. rw e (due-append rs ss)) (λ e. simp e)
+
+-- a list of which nothing is due gives nothing
+pub none-due : (rs : List Refusal) → firstDue rs .number ≡ 0 → firstDue rs ≡ none
+unfolding firstDue
+none-due [] z = refl
+none-due (r ∷ rs) z =
+    by-test (eqb (r .number) 0) (λ e. rw e (none-due rs (rw e at z)))
+    (λ e. absurd (eqb-false (r .number) 0 e (rw e at z)))

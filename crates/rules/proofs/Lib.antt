@@ -3,3 +3,4 @@ pub mod Sentences
 pub mod Bounds
 pub mod Moves
 pub mod Orders
+pub mod Numbers

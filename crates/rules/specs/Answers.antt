@@ -10,7 +10,7 @@ use Rattle.routine.specs.declared.Reading.{Reading}
 use Rattle.routine.specs.declared.Reading.the-variants as Rd
 use Rattle.routine.specs.Test.{within}
 use Rattle.routine.specs.Limits.{tableWords, setOf}
-use Rattle.routine.specs.Refusal.{given, firstDue}
+use Rattle.routine.specs.Refusal.{none, given, firstDue}
 use Rattle.routine.specs.Routines.{Routines, routines}
 use Rattle.routine.specs.Reading.{fileRefusals}
 use Rattle.rules.specs.Table.{fresh}
@@ -75,6 +75,23 @@ turning f t p = cond (eqb (turnRefusal f t p .number) 0) (cond (moves (routines 
 -- "A refused call changes nothing lent to it"
 unfoldable pub turnedTable : List ℕ → List ℕ → ℕ → List ℕ
 turnedTable f t p = cond (eqb (turnRefusal f t p .number) 0) (turned (routines f) t p) t
+
+-- ---- the document's number, block and call place of each answer: zeros where nothing is refused
+
+unfoldable pub madeNumbers : Made → Refusal
+madeNumbers Md.Fresh = none
+madeNumbers (Md.Refused r) = r
+
+unfoldable pub answerNumbers : Answer → Refusal
+answerNumbers An.Moved = none
+answerNumbers An.Idle = none
+answerNumbers (An.Refused r) = r
+
+unfoldable pub standingNumbers : Standing → Refusal
+standingNumbers (St.Is s) = none
+standingNumbers (St.Refused r) = r
+
+-- ---- what the contracts say
 
 -- what the contract of a turn says
 pub record TurnDone (f t : List ℕ) (p : ℕ) (r : Answer) (u : List ℕ) : Type 0 where
