@@ -4,6 +4,7 @@ ghost use lib.ListN.{length};
 ghost use Rattle.routine.specs.Limits.{blockBytes, checkedBytes};
 ghost use Rattle.routine.specs.Block.{callByteGood, byteGood, badByte};
 use crate::block::wide;
+use crate::calls::Call;
 use crate::range::within;
 use crate::set::Set;
 
@@ -12,7 +13,7 @@ fn call_byte_good(bases: usize, i: usize, v: usize) -> bool
     ensures { λ r. ⌜ r ≡ callByteGood bases i v ⌝ }
 {
     if i % 2 == 0 {
-        return within(1, 4, v);
+        return within(Call::MODLOCK, Call::DECREASE, v);
     }
     within(1, bases, v)
 }
