@@ -8,7 +8,7 @@ use Rattle.routine.specs.declared.Reading.the-variants as Rd
 use Rattle.routine.specs.declared.Verdict.the-variants as Vd
 use Rattle.routine.specs.Refusal.{refusalOf}
 use Rattle.routine.specs.Block.{block, check}
-use Rattle.routine.specs.Routines.{routines, modlock, readlock, unlock, decrease}
+use Rattle.routine.specs.Routines.{routines, modlock, readlock, decrease}
 use Rattle.routine.specs.Reading.{lengthGood, reading}
 use Rattle.routine.specs.Judging.{judging}
 use Rattle.rules.specs.Table.{fresh}

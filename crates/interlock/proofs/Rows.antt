@@ -1,11 +1,11 @@
 -- Where the rows are what the processes hold, the sentences about a base over the rows are those of the definitions.
-use mathlib.Core.Path.{_≡_, refl, sym, ap, _∙_}
-use mathlib.Core.Bool.{Bool, true, false, cond, _||_, Bool·beq}
+use mathlib.Core.Path.{_≡_, ap}
+use mathlib.Core.Bool.{Bool·beq}
 use mathlib.Core.List.{List, []}
 use Prim.Native.Nat.{ℕ, _+_, _-_, _≤_, _<_}
 use native.Mathlib.Omega.{arith}
 use native.Mathlib.Decide.{ℕ-discrete}
-use lib.Dec.{eqb, leb}
+use lib.Dec.{eqb}
 use lib.ListN.{length, getD, set}
 use lib.Seq.{getD-set-same, getD-set-other}
 use Rattle.routine.specs.Limits.{mostProcesses, mostBases}
@@ -13,8 +13,8 @@ use Rattle.routine.specs.First.{every, first-same}
 use Rattle.routine.specs.Routines.{Routines, modifies}
 use Rattle.routine.specs.Rows.{RowOf}
 use Rattle.routine.proofs.Sums.{sum-same}
-use Rattle.rules.specs.Table.{lock, nomore, count, call, phase}
-use Rattle.rules.specs.Consistent.{effective, held, owns, lockFits, oneIfReads, readers, baseFits, baseZero, baseGood}
+use Rattle.rules.specs.Table.{lock, call, phase}
+use Rattle.rules.specs.Consistent.{effective, held, owns, lockFits, oneIfReads, readers, baseFits, baseGood}
 use Rattle.interlock.specs.Holders.{RowsOf, holder, lockFitsIn, readersIn, baseFitsIn, baseGoodIn, basesGoodIn}
 
 module _ (S : Routines) (t : List ℕ) (all : List (List ℕ)) (rows : RowsOf all S t (S .N)) where

@@ -1,15 +1,15 @@
 -- What the code sees of a process's holding is what the definitions say.
-use mathlib.Core.Path.{_≡_, refl, sym, ap, _∙_, subst}
+use mathlib.Core.Path.{_≡_, refl, sym, _∙_, subst}
 use mathlib.Core.Logic.{_≢_}
-use mathlib.Core.Bool.{Bool, true, false, cond, _||_}
+use mathlib.Core.Bool.{true, cond, _||_}
 use mathlib.Core.List.{List}
-use Prim.Native.Nat.{ℕ, zero, suc, _+_, _≤_, _<_}
+use Prim.Native.Nat.{ℕ, zero, suc, _≤_, _<_}
 use native.Mathlib.Omega.{arith}
 use native.Mathlib.Decide.{decLe}
 use lib.Dec.{eqb, leb}
 use borrow.Author.Tests.{eqb-true, leb-true, eq-eqb}
 use Rattle.routine.specs.Limits.{mostBases}
-use Rattle.routine.specs.Test.{and, implies, by-test, and-left, and-right, implied, below-within, clash}
+use Rattle.routine.specs.Test.{by-test, and-left, and-right, implied, below-within, clash}
 use Rattle.routine.specs.First.{every-is}
 use Rattle.routine.specs.Routines.{Routines, kindNow, baseNow, free, hold}
 use Rattle.routine.specs.Rules.{WellFormed}

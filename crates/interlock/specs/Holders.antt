@@ -1,11 +1,10 @@
 -- The sentences about a base, in terms of an array of eight rows of sixteen marks: who holds which base in which way.
 -- Where the rows are what the processes hold, these are the definitions of rules' Consistent.
-use mathlib.Core.Path.{_≡_, refl}
-use mathlib.Core.Bool.{Bool, true, false, cond, _||_, Bool·beq}
+use mathlib.Core.Bool.{Bool, cond, _||_, Bool·beq}
 use mathlib.Core.List.{List, []}
-use Prim.Native.Nat.{ℕ, _+_, _-_, _≤_, _<_}
+use Prim.Native.Nat.{ℕ, _+_, _-_, _≤_}
 use lib.Dec.{eqb, leb}
-use lib.ListN.{length, getD}
+use lib.ListN.{getD}
 use Rattle.routine.specs.Limits.{mostBases}
 use Rattle.routine.specs.Test.{and}
 use Rattle.routine.specs.First.{every}

@@ -1,23 +1,20 @@
 -- A file that is not refused says what is well formed.
-use mathlib.Core.Path.{_≡_, refl, sym, ap, _∙_}
-use mathlib.Core.Bool.{Bool, true, false, cond}
+use mathlib.Core.Path.{_≡_, ap}
+use mathlib.Core.Bool.{true}
 use mathlib.Core.List.{List}
-use Prim.Native.Nat.{ℕ, _+_, _*_, _/_, _%_, _≤_, _<_}
+use Prim.Native.Nat.{ℕ, _+_, _*_, _%_, _≤_, _<_}
 use native.Mathlib.Omega.{arith}
-use lib.Dec.{eqb, ltb, leb, lit<}
+use lib.Dec.{eqb, lit<}
 use lib.ListN.{length}
 use borrow.Author.Tests.{eqb-true, leb-true, eq-eqb, ne-eqb, lt-ltb}
-use Rattle.routine.specs.declared.Reading.the-variants.{Good, Refused}
-use Rattle.routine.specs.declared.set.Set.{Set}
-use Rattle.routine.specs.Limits.{mostBases, mostCalls, headBytes, checkedBytes, setOf}
-use Rattle.routine.specs.Test.{and, within, and-left, and-right, within-is}
-use Rattle.routine.specs.First.{firstIn, first-before}
-use Rattle.routine.specs.Refusal.{refusalOf}
+use Rattle.routine.specs.Limits.{mostBases, mostCalls, headBytes, checkedBytes}
+use Rattle.routine.specs.Test.{and-left, and-right, within-is}
+use Rattle.routine.specs.First.{first-before}
 use Rattle.routine.specs.Block.{block, byte, callByteGood, byteGood, badByte}
-use Rattle.routine.specs.Routines.{Routines, routines}
+use Rattle.routine.specs.Routines.{routines}
 use Rattle.routine.specs.Rules.{WellFormed}
-use Rattle.routine.specs.Reading.{lengthGood, fieldsGood, fileRefusal, reading}
-use Rattle.routine.proofs.Refused.{AllGood, Outcome, outcome, bad-length, bad-check, bad-field, all-good, gives-1, gives-2, gives-3, gives-good, length-means}
+use Rattle.routine.specs.Reading.{lengthGood, fieldsGood, fileRefusal}
+use Rattle.routine.proofs.Refused.{AllGood, Outcome, outcome, bad-length, bad-check, bad-field, all-good, length-means}
 
 -- the field rules, byte by byte, in a block that breaks none
 module _ (n b p : ℕ) (s : List ℕ) (none-bad : (i : ℕ) → i < checkedBytes → byteGood n b p s i ≡ true) where

@@ -1,24 +1,23 @@
 -- The judge passes exactly the well-formed files that keep the rules, and what else holds of such a file.
-use mathlib.Core.Path.{_≡_, refl, sym, ap, _∙_}
+use mathlib.Core.Path.{_≡_, sym, ap, _∙_}
 use mathlib.Core.Logic.{_≢_}
-use mathlib.Core.Bool.{Bool, true, false, cond, not}
+use mathlib.Core.Bool.{true, cond, not}
 use mathlib.Core.List.{List, [], _∷_}
-use Prim.Native.Nat.{ℕ, zero, suc, _+_, _*_, _≤_, _<_}
+use Prim.Native.Nat.{ℕ, _+_, _≤_, _<_}
 use native.Mathlib.Omega.{arith}
 use native.Mathlib.Decide.{ℕ-discrete, decLe}
-use lib.Dec.{eqb, ltb, leb}
-use borrow.Author.Tests.{eqb-true, eqb-false, ltb-true, leb-true, leb-false, eq-eqb, ne-eqb, lt-ltb, le-leb, lt-leb}
+use lib.Dec.{eqb, ltb}
+use borrow.Author.Tests.{eqb-true, ltb-true, eq-eqb, ne-eqb, lt-ltb, le-leb, lt-leb}
 use Rattle.routine.specs.declared.refusal.Refusal.{Refusal}
-use Rattle.routine.specs.declared.Verdict.{Verdict}
 use Rattle.routine.specs.declared.Verdict.the-variants.{Passes, Refused}
 use Rattle.routine.specs.Limits.{mostBases}
 use Rattle.routine.specs.Test.{implies, by-test, implied, implying, clash}
-use Rattle.routine.specs.First.{every, every-at, every-is}
-use Rattle.routine.specs.Refusal.{refusalOf, none, given, firstDue, due-append}
-use Rattle.routine.specs.Routines.{Routines, routines, readlock, unlock, free, fine, hold}
+use Rattle.routine.specs.First.{every-at, every-is}
+use Rattle.routine.specs.Refusal.{none, given, firstDue, due-append}
+use Rattle.routine.specs.Routines.{Routines, routines, readlock, free, hold}
 use Rattle.routine.specs.Rules.{WellFormed, KeepsRules}
 use Rattle.routine.specs.Reading.{fileRefusals, fileRefusal}
-use Rattle.routine.specs.Judging.{isTake, onlyLower, callGood, nothingHeld, placeGood, routinePasses, failingBlock, failingPlace, passes, judgement, judgeRefusals, judgeRefusal, judging}
+use Rattle.routine.specs.Judging.{isTake, onlyLower, callGood, nothingHeld, placeGood, routinePasses, passes, judgement, judgeRefusals, judgeRefusal, judging}
 use Rattle.routine.proofs.Walking.{place-call, place-end}
 use Rattle.routine.proofs.Formed.{not-refused}
 

@@ -1,23 +1,22 @@
 -- "Given exactly when", for numbers 1, 2 and 3: the condition holds, no earlier number is due, and the block shown is the first such.
-use mathlib.Core.Path.{_≡_, refl, sym, ap, _∙_}
+use mathlib.Core.Path.{_≡_, sym, ap, _∙_}
 use mathlib.Core.Logic.{_≢_}
-use mathlib.Core.Bool.{Bool, true, false, cond, not}
+use mathlib.Core.Bool.{Bool, true, false}
 use mathlib.Core.List.{List}
 use Prim.Native.Nat.{ℕ, _+_, _*_, _%_, _≤_, _<_}
 use native.Mathlib.Omega.{arith}
 use native.Mathlib.Decide.{decLe}
-use lib.Dec.{eqb, leb}
+use lib.Dec.{eqb}
 use lib.ListN.{length}
 use borrow.Author.Tests.{eqb-true, eqb-false, eq-eqb, le-leb, lt-leb}
 use Rattle.routine.specs.declared.refusal.Refusal.{Refusal}
 use Rattle.routine.specs.declared.set.Set.{Set}
-use Rattle.routine.specs.declared.Reading.{Reading}
 use Rattle.routine.specs.declared.Reading.the-variants.{Good, Refused}
 use Rattle.routine.specs.Limits.{mostProcesses, blockBytes, setOf}
-use Rattle.routine.specs.Test.{and, within, by-test, and-left, and-right, both, within-is, is-within, clash}
-use Rattle.routine.specs.First.{firstIn, first-low, first-before, first-fails, first-is}
+use Rattle.routine.specs.Test.{within, by-test, and-left, and-right, both, within-is, is-within}
+use Rattle.routine.specs.First.{first-low, first-before, first-fails, first-is}
 use Rattle.routine.specs.Refusal.{refusalOf, none, given, firstDue}
-use Rattle.routine.specs.Routines.{Routines, routines}
+use Rattle.routine.specs.Routines.{routines}
 use Rattle.routine.specs.Reading.{lengthGood, checkGood, fieldsGood, firstBlock, forBlock, fileRefusals, fileRefusal, reading}
 
 -- ---- a length that is not refused

@@ -1,6 +1,6 @@
 -- The judge's walk over blocks and calls: what it knows where it stops, where it goes on, and where it ends.
-use mathlib.Core.Path.{_≡_, refl, sym, ap, _∙_}
-use mathlib.Core.Bool.{Bool, true, false, cond, not}
+use mathlib.Core.Path.{_≡_, sym, _∙_}
+use mathlib.Core.Bool.{true, false, not}
 use mathlib.Core.List.{List}
 use Prim.Native.Nat.{ℕ, _+_, _≤_, _<_}
 use native.Mathlib.Omega.{arith}
@@ -10,7 +10,7 @@ use Rattle.routine.specs.Limits.{mostBases}
 use Rattle.routine.specs.Test.{implies}
 use Rattle.routine.specs.First.{firstIn, every, first-more, first-here, first-same, walk-stops, walk-ends}
 use Rattle.routine.specs.Refusal.{refusalOf, none, given}
-use Rattle.routine.specs.Routines.{Routines, free, fine, hold}
+use Rattle.routine.specs.Routines.{Routines, free, hold}
 use Rattle.routine.specs.Rows.{RowOf, markIn}
 use Rattle.routine.specs.Reading.{firstBlock}
 use Rattle.routine.specs.Judging.{onlyLower, callGood, nothingHeld, placeGood, failingPlace, routinePasses, failingBlock, passes, judgement}

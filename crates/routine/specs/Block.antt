@@ -1,8 +1,8 @@
 -- "N blocks of 512 bytes, block p for process p": one block, by its bytes.
-use mathlib.Core.Path.{_≡_, refl, _∙_}
-use mathlib.Core.Bool.{Bool, true, false, cond}
+use mathlib.Core.Path.{_≡_, _∙_}
+use mathlib.Core.Bool.{Bool, cond}
 use mathlib.Core.List.{List}
-use Prim.Native.Nat.{ℕ, _+_, _-_, _*_, _%_, _≤_, _<_}
+use Prim.Native.Nat.{ℕ, _+_, _-_, _*_, _%_, _<_}
 use lib.Dec.{eqb, ltb, leb}
 use lib.ListN.{getD, take, drop}
 use lib.Seq.{getD-take, getD-drop}

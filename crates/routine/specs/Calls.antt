@@ -1,15 +1,15 @@
 -- One call of a file, for any bytes and any process and place.
-use mathlib.Core.Path.{_≡_, refl, sym, _∙_}
-use mathlib.Core.Bool.{Bool, true, false, cond}
+use mathlib.Core.Path.{_≡_}
+use mathlib.Core.Bool.{cond}
 use mathlib.Core.List.{List}
-use Prim.Native.Nat.{ℕ, _+_, _*_, _-_, _/_, _≤_, _<_}
+use Prim.Native.Nat.{ℕ, _-_, _≤_, _<_}
 use native.Mathlib.Omega.{arith}
-use lib.Dec.{eqb, ltb, leb}
+use lib.Dec.{ltb}
 use borrow.Author.Tests.{lt-ltb, ltb-true}
 use Rattle.routine.specs.declared.calls.Call.{Call}
 use Rattle.routine.specs.Test.{and, within, by-test, within-is, is-within}
 use Rattle.routine.specs.Limits.{mostCalls}
-use Rattle.routine.specs.Routines.{Routines, routines, kindNow, baseNow}
+use Rattle.routine.specs.Routines.{routines, kindNow, baseNow}
 
 abbrev pub callOf : ℕ → ℕ → Call
 callOf kind base = record { kind = kind; base = base }

@@ -1,8 +1,7 @@
 -- Which file is refused, and where: numbers 1, 2 and 3.
-use mathlib.Core.Path.{_≡_, refl}
-use mathlib.Core.Bool.{Bool, true, false, cond, not}
+use mathlib.Core.Bool.{Bool, cond, not}
 use mathlib.Core.List.{List, [], _∷_}
-use Prim.Native.Nat.{ℕ, _+_, _*_, _/_, _%_, _≤_, _<_}
+use Prim.Native.Nat.{ℕ, _+_, _*_, _%_}
 use lib.Dec.{eqb, leb}
 use lib.ListN.{length}
 use Rattle.routine.specs.declared.Reading.{Reading}
@@ -12,7 +11,7 @@ use Rattle.routine.specs.Test.{and, within}
 use Rattle.routine.specs.First.{firstIn}
 use Rattle.routine.specs.Limits.{mostProcesses, blockBytes, checkedBytes, setOf}
 use Rattle.routine.specs.Block.{block, check, checkShown, badByte}
-use Rattle.routine.specs.Routines.{Routines, routines}
+use Rattle.routine.specs.Routines.{routines}
 use Rattle.routine.specs.Refusal.{none, given, firstDue}
 
 -- 1: "file length is 0, above 4,096 or no multiple of 512"

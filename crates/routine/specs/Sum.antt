@@ -1,5 +1,4 @@
 -- Sums over a range of numbers.
-use mathlib.Core.Path.{_≡_, refl}
 use Prim.Native.Nat.{ℕ, zero, suc, _+_}
 
 -- f 0 + .. + f (n - 1)

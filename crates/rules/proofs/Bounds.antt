@@ -1,18 +1,17 @@
 -- What code and proofs need of a consistent table: every word is small, and an unfinished process stands at a call.
-use mathlib.Core.Path.{_≡_, refl, sym, ap, _∙_}
+use mathlib.Core.Path.{_≡_}
 use mathlib.Core.Logic.{_≢_, _↔_}
 use mathlib.Core.List.{List}
-use Prim.Native.Nat.{ℕ, zero, suc, _+_, _≤_, _<_}
+use Prim.Native.Nat.{ℕ, _≤_, _<_}
 use native.Mathlib.Omega.{arith}
-use native.Mathlib.Decide.{ℕ-discrete, decLe}
-use Rattle.routine.specs.Sum.{sum}
-use Rattle.routine.specs.Limits.{mostProcesses, mostBases, mostCalls}
-use Rattle.routine.specs.Routines.{Routines, kindNow, baseNow, modlock, decrease, reads}
+use native.Mathlib.Decide.{decLe}
+use Rattle.routine.specs.Limits.{mostProcesses, mostCalls}
+use Rattle.routine.specs.Routines.{Routines, kindNow, reads}
 use Rattle.routine.specs.Rules.{WellFormed}
 use Rattle.rules.specs.Table.{lock, nomore, count, call, phase, wake, entry}
 use Rattle.rules.specs.Consistent.{held, oneIfReads, readers}
 use Rattle.routine.proofs.Sums.{sum-low, term-le}
-use Rattle.routine.proofs.Holding.{at-call, kind-end, CallNow, call-now}
+use Rattle.routine.proofs.Holding.{at-call, CallNow, call-now}
 use Rattle.rules.proofs.Holding.{one-small, one-reads}
 use Rattle.rules.proofs.Sentences.{Marks, Consistent, ProcessConsistent}
 

@@ -2,15 +2,14 @@
 use mathlib.Core.Path.{_≡_, refl, ap}
 use mathlib.Core.Logic.{_≢_}
 use mathlib.Core.List.{List}
-use Prim.Native.Nat.{ℕ, suc, _+_, _≤_, _<_}
+use Prim.Native.Nat.{ℕ, suc, _≤_, _<_}
 use native.Mathlib.Omega.{arith}
 use native.Mathlib.Numerals.{add-one}
 use native.Mathlib.Decide.{ℕ-discrete}
 use lib.Dec.{eqb}
 use borrow.Author.Tests.{ne-eqb}
-use Rattle.routine.specs.Routines.{Routines, baseNow, modifies, reads, hold}
+use Rattle.routine.specs.Routines.{Routines, modifies, reads, hold}
 use Rattle.routine.proofs.Holding.{base-now, hold-small}
-use Rattle.rules.specs.Table.{call, phase}
 use Rattle.rules.specs.Consistent.{markNow, effective, held, owns, oneIfReads}
 
 pub mark-now : (S : Routines) (p k : ℕ) → k < S .calls p → markNow S p k ≡ hold S p k (S .base p k)

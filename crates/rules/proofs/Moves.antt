@@ -1,21 +1,19 @@
 -- Whether a process moves: its own words decide.
-use mathlib.Core.Path.{_≡_, refl, sym, ap, _∙_}
+use mathlib.Core.Path.{_≡_, refl}
 use mathlib.Core.Logic.{_≢_}
-use mathlib.Core.Bool.{Bool, true, false, cond}
+use mathlib.Core.Bool.{true, false, cond}
 use mathlib.Core.List.{List}
 use Prim.Native.Nat.{ℕ, zero, suc, _≤_, _<_}
 use native.Mathlib.Omega.{arith}
 use lib.Dec.{eqb}
 use borrow.Author.Tests.{eqb-true, eqb-false, eq-eqb, ne-eqb}
 use Rattle.routine.specs.Test.{by-test}
-use Rattle.routine.specs.Routines.{Routines, kindNow, baseNow}
+use Rattle.routine.specs.Routines.{Routines, baseNow}
 use Rattle.routine.specs.Rules.{WellFormed}
 use Rattle.routine.proofs.Holding.{kind-end, call-now}
 use Rattle.rules.specs.declared.Words.{Words}
-use Rattle.rules.specs.declared.Next.{Next}
 use Rattle.rules.specs.declared.Next.the-variants as Nx
 use Rattle.rules.specs.Table.{call, phase, wake, wordsAt, putWords}
-use Rattle.rules.specs.Consistent.{markNow}
 use Rattle.rules.specs.Turn.{start, await, next, notified, nextAt, settle, turned, isMove, moves}
 use Rattle.rules.proofs.Sentences.{Consistent}
 use Rattle.rules.proofs.Bounds.{finished-phase}

@@ -1,12 +1,11 @@
 -- The numbers that an answer shows are those of the call's order of refusals.
-use mathlib.Core.Path.{_≡_, refl, sym, _∙_}
-use mathlib.Core.Bool.{Bool, true, false, cond, not}
+use mathlib.Core.Path.{_≡_, sym}
+use mathlib.Core.Bool.{true}
 use mathlib.Core.List.{List, [], _∷_, _++_}
 use Prim.Native.Nat.{ℕ}
 use lib.Dec.{eqb}
 use lib.ListN.{length}
 use borrow.Author.Tests.{eqb-true}
-use Rattle.routine.specs.declared.refusal.Refusal.{Refusal}
 use Rattle.routine.specs.Limits.{tableWords}
 use Rattle.routine.specs.Test.{by-test}
 use Rattle.routine.specs.Refusal.{none, given, firstDue, none-due}

@@ -1,9 +1,9 @@
 -- The orders of refusals, step by step: what the calls answer from the reader's refusal on.
 use mathlib.Core.Path.{_≡_, refl, sym, ap, _∙_}
 use mathlib.Core.Logic.{_≢_}
-use mathlib.Core.Bool.{Bool, true, false, cond, not}
+use mathlib.Core.Bool.{true, false, cond}
 use mathlib.Core.List.{List, [], _∷_}
-use Prim.Native.Nat.{ℕ, _≤_}
+use Prim.Native.Nat.{ℕ}
 use native.Mathlib.Omega.{arith}
 use lib.Dec.{eqb}
 use lib.ListN.{length}
@@ -12,9 +12,9 @@ use Rattle.routine.specs.declared.refusal.Refusal.{Refusal}
 use Rattle.routine.specs.declared.set.Set.{Set}
 use Rattle.routine.specs.declared.Reading.the-variants as Rd
 use Rattle.routine.specs.Limits.{tableWords, setOf}
-use Rattle.routine.specs.Test.{within, by-test, within-is}
+use Rattle.routine.specs.Test.{within, by-test}
 use Rattle.routine.specs.Refusal.{refusalOf, none, given, firstDue, due-append}
-use Rattle.routine.specs.Routines.{Routines, routines}
+use Rattle.routine.specs.Routines.{routines}
 use Rattle.routine.specs.Reading.{fileRefusals, fileRefusal}
 use Rattle.routine.proofs.Formed.{not-refused}
 use Rattle.rules.specs.Consistent.{consistent}

@@ -1,16 +1,16 @@
 -- The sentences of "Consistent means all of these" as plain statements, and that the test says exactly them.
-use mathlib.Core.Path.{_≡_, refl, sym, ap, _∙_, subst}
+use mathlib.Core.Path.{_≡_, refl, sym, _∙_}
 use mathlib.Core.Logic.{_≢_}
-use mathlib.Core.Bool.{Bool, true, false, cond, not, _||_, Bool·beq}
+use mathlib.Core.Bool.{Bool, true, false, Bool·beq}
 use mathlib.Core.List.{List}
-use Prim.Native.Nat.{ℕ, zero, suc, _+_, _≤_, _<_}
+use Prim.Native.Nat.{ℕ, _+_, _≤_, _<_}
 use native.Mathlib.Omega.{arith}
-use lib.Dec.{eqb, ltb, leb}
+use lib.Dec.{eqb, leb}
 use borrow.Author.Tests.{eqb-true, eqb-false, leb-true, leb-false, eq-eqb, ne-eqb, le-leb, lt-leb, not-true}
-use Rattle.routine.specs.Test.{and, implies, within, by-test, clash, and-left, and-right, both, implied, implying, within-is, is-within}
+use Rattle.routine.specs.Test.{within, by-test, clash, and-left, and-right, both, implied, implying, within-is, is-within}
 use Rattle.routine.specs.First.{every, every-at, every-is}
 use Rattle.routine.specs.Limits.{mostProcesses, mostBases}
-use Rattle.routine.specs.Routines.{Routines, kindNow, baseNow, modlock, readlock, unlock, decrease, fine, hold}
+use Rattle.routine.specs.Routines.{Routines, kindNow, modlock, readlock, unlock, decrease, fine, hold}
 use Rattle.routine.specs.Rules.{WellFormed}
 use Rattle.rules.specs.Table.{lock, nomore, count, call, phase, wake, entry}
 use Rattle.rules.specs.Consistent.{markNow, callFits, completedFine, standsWell, marksAllowed, processFits, processZero, owns, lockFits, readers, baseFits, baseZero, processGood, baseGood, consistent}

@@ -1,8 +1,8 @@
 -- What the calls of the library answer, and the table that they leave, for every file, table and process.
-use mathlib.Core.Path.{_≡_, refl}
-use mathlib.Core.Bool.{Bool, true, false, cond, not}
+use mathlib.Core.Path.{_≡_}
+use mathlib.Core.Bool.{cond, not}
 use mathlib.Core.List.{List, [], _∷_, _++_}
-use Prim.Native.Nat.{ℕ, _≤_}
+use Prim.Native.Nat.{ℕ}
 use lib.Dec.{eqb}
 use lib.ListN.{length}
 use Rattle.routine.specs.declared.refusal.Refusal.{Refusal}
@@ -11,7 +11,7 @@ use Rattle.routine.specs.declared.Reading.the-variants as Rd
 use Rattle.routine.specs.Test.{within}
 use Rattle.routine.specs.Limits.{tableWords, setOf}
 use Rattle.routine.specs.Refusal.{none, given, firstDue}
-use Rattle.routine.specs.Routines.{Routines, routines}
+use Rattle.routine.specs.Routines.{routines}
 use Rattle.routine.specs.Reading.{fileRefusals}
 use Rattle.rules.specs.Table.{fresh}
 use Rattle.rules.specs.Consistent.{consistent}

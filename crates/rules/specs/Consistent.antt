@@ -1,15 +1,13 @@
 -- When a table is consistent with a file: one definition for each sentence of "Consistent means all of these".
-use mathlib.Core.Path.{_≡_, refl}
-use mathlib.Core.Bool.{Bool, true, false, cond, not, _||_, Bool·beq}
-use mathlib.Core.List.{List, [], _∷_}
-use Prim.Native.Nat.{ℕ, _+_, _≤_, _<_}
-use lib.Dec.{eqb, ltb, leb}
-use lib.ListN.{length, getD}
+use mathlib.Core.Bool.{Bool, true, cond, not, _||_, Bool·beq}
+use mathlib.Core.List.{List}
+use Prim.Native.Nat.{ℕ, _+_}
+use lib.Dec.{eqb, leb}
 use Rattle.routine.specs.Test.{and, implies, within}
 use Rattle.routine.specs.First.{every}
 use Rattle.routine.specs.Sum.{sum}
 use Rattle.routine.specs.Limits.{mostProcesses, mostBases}
-use Rattle.routine.specs.Routines.{Routines, kindNow, baseNow, modlock, readlock, unlock, decrease, free, modifies, reads, fine, hold}
+use Rattle.routine.specs.Routines.{Routines, kindNow, baseNow, modlock, readlock, unlock, decrease, modifies, reads, fine, hold}
 use Rattle.rules.specs.Table.{lock, nomore, count, call, phase, wake, entry}
 
 -- the mark that the completed calls alone leave on the base of the current call

@@ -1,6 +1,5 @@
 -- The standing of a table: "0, every routine finished; 1, not 0 and some process would answer MOVED; 2, neither. A stopped process is not finished."
-use mathlib.Core.Path.{_≡_, refl}
-use mathlib.Core.Bool.{Bool, true, false, cond, not}
+use mathlib.Core.Bool.{Bool, cond, not}
 use mathlib.Core.List.{List}
 use Prim.Native.Nat.{ℕ, _+_}
 use lib.Dec.{eqb}

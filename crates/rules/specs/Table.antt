@@ -1,6 +1,6 @@
 -- The state table: 80 words, read by named accessors and written by three writers, with the laws of the one over the other.
 -- Only this file knows where a word stands.
-use mathlib.Core.Path.{_≡_, refl, sym, ap, _∙_}
+use mathlib.Core.Path.{_≡_, _∙_}
 use mathlib.Core.Logic.{_≢_}
 use mathlib.Core.List.{List}
 use Prim.Native.Nat.{ℕ, _+_, _-_, _*_, _≤_, _<_}

@@ -1,9 +1,8 @@
 -- One turn: a definition for each line of "One turn", in its order.
-use mathlib.Core.Path.{_≡_, refl}
-use mathlib.Core.Bool.{Bool, true, false, cond, not}
+use mathlib.Core.Bool.{Bool, true, false, cond}
 use mathlib.Core.List.{List}
-use Prim.Native.Nat.{ℕ, zero, suc, _+_, _-_, _≤_, _<_}
-use lib.Dec.{eqb, ltb, leb}
+use Prim.Native.Nat.{ℕ, zero, suc, _+_, _-_}
+use lib.Dec.{eqb}
 use Rattle.routine.specs.Test.{and}
 use Rattle.routine.specs.Routines.{Routines, kindNow, baseNow, modlock, unlock, fine}
 use Rattle.routine.specs.Judging.{isTake}

@@ -1,6 +1,4 @@
 use mathlib.Core.Path.{_≡_, refl, sym, ap, _∙_}
-use mathlib.Core.Bool.{Bool, true, false, cond, not}
-use Prim.Native.Nat.{ℕ, _≤_, _<_}
 use Rattle.routine.specs.Limits.{setOf}
 use Rattle.routine.specs.Routines.{routines}
 use Rattle.rules.specs.declared.Standing.the-variants.{Is, Refused}

@@ -1,14 +1,11 @@
-use mathlib.Core.Path.{_≡_, refl, sym, ap, _∙_}
-use mathlib.Core.Bool.{Bool, true, false, cond, not}
-use Prim.Native.Nat.{ℕ, _≤_, _<_}
-use borrow.Author.Tests.{eq-eqb, ne-eqb, not-true, not-false}
+use mathlib.Core.Path.{_≡_, sym, ap, _∙_}
+use borrow.Author.Tests.{not-true, not-false}
 use native.Mathlib.Omega.{arith}
 use Rattle.routine.specs.Limits.{setOf}
 use Rattle.routine.specs.Test.{within, within-is}
 use Rattle.routine.specs.Refusal.{refusalOf, none}
 use Rattle.routine.specs.Routines.{routines}
-use Rattle.rules.specs.declared.Answer.the-variants.{Moved, Idle, Refused}
-use Rattle.rules.specs.Turn.{moves}
+use Rattle.rules.specs.declared.Answer.the-variants.{Refused}
 use Rattle.rules.specs.Answers.{tableRefusal, turnRefusal}
 use Rattle.rules.proofs.Orders.{check-refused, check-passed, ready, due-table, due-7, due-nothing, turn-refuses, turn-goes}
 use borrow.Author.Needs.{needs}

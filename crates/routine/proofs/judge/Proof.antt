@@ -1,7 +1,7 @@
-use mathlib.Core.Path.{_≡_, refl, sym, ap, _∙_}
+use mathlib.Core.Path.{_≡_, sym, ap, _∙_}
 use Rattle.routine.specs.Routines.{routines}
 use Rattle.routine.specs.Reading.{fileRefusal}
-use Rattle.routine.specs.declared.Verdict.the-variants.{Passes, Refused}
+use Rattle.routine.specs.declared.Verdict.the-variants.{Refused}
 use Rattle.routine.specs.Limits.{setOf}
 use Rattle.routine.proofs.Refused.{refused-is, good-is}
 use Rattle.routine.proofs.Formed.{not-refused}

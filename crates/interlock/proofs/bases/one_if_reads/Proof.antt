@@ -1,5 +1,4 @@
-use borrow.Author.Tests.{eq-eqb, ne-eqb, lt-ltb, le-ltb, le-leb, lt-leb, eqb-true, not-true, not-false}
-use native.Mathlib.Omega.{arith}
+use borrow.Author.Tests.{eq-eqb, ne-eqb}
 use Rattle.rules.specs.Consistent.{oneIfReads}
 use Rattle.interlock.proofs.bases.one_if_reads.Statement.{statement}
 use Rattle.interlock.proofs.bases.one_if_reads.Tie as tie

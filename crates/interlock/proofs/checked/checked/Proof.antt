@@ -1,8 +1,6 @@
-use borrow.Author.Tests.{eq-eqb, ne-eqb, not-true, not-false}
+use borrow.Author.Tests.{not-true, not-false}
 use native.Mathlib.Omega.{arith}
-use mathlib.Core.Path.{_≡_, refl, sym, ap, _∙_}
-use mathlib.Core.Bool.{Bool, true, false, cond, not}
-use Prim.Native.Nat.{ℕ, _≤_, _<_}
+use mathlib.Core.Path.{_≡_, sym, ap, _∙_}
 use Rattle.routine.specs.declared.Reading.the-variants as Rd
 use Rattle.routine.specs.Limits.{setOf}
 use Rattle.routine.specs.Refusal.{refusalOf}

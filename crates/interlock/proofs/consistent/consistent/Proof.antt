@@ -1,13 +1,11 @@
 -- The rows of the processes before p are worked out, and all of those processes are good.
-use borrow.Author.Tests.{eq-eqb, ne-eqb, lt-ltb, le-ltb, le-leb, lt-leb, eqb-true, leb-true, not-true, not-false}
+use borrow.Author.Tests.{not-true, not-false}
 use native.Mathlib.Omega.{arith}
 use mathlib.Core.Path.{_≡_, refl, sym, ap, _∙_}
-use mathlib.Core.Bool.{Bool, true, false, cond, not}
-use Prim.Native.Nat.{ℕ, suc, _+_, _-_, _*_, _≤_, _<_}
-use lib.Dec.{eqb, leb}
-use lib.ListN.{length, getD, length-set}
-use Rattle.routine.specs.Test.{and-skip, and-stop, clash}
-use Rattle.routine.specs.Limits.{mostProcesses, setOf}
+use Prim.Native.Nat.{_+_, _-_, _≤_}
+use lib.ListN.{length, length-set}
+use Rattle.routine.specs.Test.{and-skip, and-stop}
+use Rattle.routine.specs.Limits.{mostProcesses}
 use Rattle.routine.specs.First.{firstIn, first-more, walk-stops, walk-ends}
 use Rattle.routine.specs.Routines.{routines}
 use Rattle.rules.specs.Consistent.{processGood, consistent}

@@ -1,11 +1,8 @@
 -- The row is what the first j calls leave held, and none of them was a logic error.
-use borrow.Author.Tests.{eq-eqb, ne-eqb, lt-ltb, le-ltb, le-leb, lt-leb, eqb-true, not-true, not-false}
+use borrow.Author.Tests.{not-true, not-false}
 use native.Mathlib.Omega.{arith}
 use mathlib.Core.Path.{_≡_, refl, sym, ap, _∙_}
-use mathlib.Core.Bool.{Bool, true, false, cond, Bool·beq}
-use Prim.Native.Nat.{ℕ, suc, _+_, _-_, _*_, _≤_, _<_}
-use lib.Dec.{eqb, leb}
-use lib.ListN.{length, getD}
+use Prim.Native.Nat.{_-_, _≤_, _<_}
 use Rattle.routine.specs.Limits.{mostBases}
 use Rattle.routine.specs.Test.{clash}
 use Rattle.routine.specs.First.{firstIn, first-more, walk-stops, walk-ends}

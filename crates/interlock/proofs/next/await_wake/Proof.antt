@@ -1,5 +1,4 @@
-use borrow.Author.Tests.{eq-eqb, ne-eqb, lt-ltb, le-ltb, le-leb, lt-leb, eqb-true, not-true, not-false}
-use native.Mathlib.Omega.{arith}
+use borrow.Author.Tests.{eq-eqb, ne-eqb}
 use Rattle.rules.specs.Turn.{withMarks, toPhase, await}
 use Rattle.interlock.proofs.next.await_wake.Statement.{statement}
 use Rattle.interlock.proofs.next.await_wake.Tie as tie

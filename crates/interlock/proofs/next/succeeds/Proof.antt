@@ -1,5 +1,4 @@
-use borrow.Author.Tests.{eq-eqb, ne-eqb, lt-ltb, le-ltb, le-leb, lt-leb, eqb-true, not-true, not-false}
-use native.Mathlib.Omega.{arith}
+use borrow.Author.Tests.{eq-eqb, ne-eqb}
 use Rattle.routine.specs.Routines.{modlock}
 use lib.Dec.{eqb}
 use Rattle.routine.specs.Test.{and, by-test}

@@ -1,5 +1,4 @@
-use borrow.Author.Tests.{eq-eqb, ne-eqb, lt-ltb, le-ltb, le-leb, lt-leb, eqb-true, not-true, not-false}
-use native.Mathlib.Omega.{arith}
+use borrow.Author.Tests.{eq-eqb, ne-eqb, le-leb, lt-leb}
 use Rattle.routine.specs.Test.{and, implies}
 use Rattle.rules.specs.Consistent.{callFits}
 use Rattle.interlock.proofs.processes.call_fits.Statement.{statement}

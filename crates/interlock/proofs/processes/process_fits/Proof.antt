@@ -1,11 +1,10 @@
 -- The tests come in the order of the sentences; each answer stops at the first that fails.
-use borrow.Author.Tests.{eq-eqb, ne-eqb, lt-ltb, le-ltb, le-leb, lt-leb, eqb-true, leb-true, not-true, not-false}
+use borrow.Author.Tests.{le-leb, lt-leb, not-true, not-false}
 use native.Mathlib.Omega.{arith}
-use mathlib.Core.Path.{_≡_, refl, sym, ap, _∙_}
-use mathlib.Core.Bool.{Bool, true, false, cond, not, Bool·beq}
-use Prim.Native.Nat.{ℕ, suc, _+_, _-_, _*_, _≤_, _<_}
-use lib.Dec.{eqb, leb}
-use lib.ListN.{length, getD}
+use mathlib.Core.Path.{_≡_, sym, ap, _∙_}
+use mathlib.Core.Bool.{true}
+use Prim.Native.Nat.{_-_, _≤_, _<_}
+use lib.Dec.{leb}
 use Rattle.routine.specs.Test.{and-skip, and-stop, clash}
 use Rattle.routine.specs.Routines.{routines, kindNow, baseNow}
 use Rattle.routine.specs.Calls.{callOf, calls-are, call-now}

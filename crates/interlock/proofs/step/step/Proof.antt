@@ -1,12 +1,9 @@
 -- The code looks at the current call, its base's and the process's words and the mark that the completed calls leave, as the definition does.
-use borrow.Author.Tests.{eq-eqb, ne-eqb, lt-ltb, le-ltb, le-leb, lt-leb, eqb-true, leb-true, not-true, not-false}
 use native.Mathlib.Omega.{arith}
-use mathlib.Core.Path.{_≡_, refl, sym, ap, _∙_}
-use mathlib.Core.Bool.{Bool, true, false, cond, not}
-use Prim.Native.Nat.{ℕ, suc, _+_, _-_, _*_, _≤_, _<_}
-use lib.Dec.{eqb, leb}
-use lib.ListN.{length, getD, length-set}
-use Rattle.routine.specs.Test.{and-skip, and-stop, clash}
+use mathlib.Core.Path.{_≡_, sym, ap, _∙_}
+use mathlib.Core.Bool.{cond}
+use Prim.Native.Nat.{_-_, _≤_, _<_}
+use lib.Dec.{eqb}
 use native.Mathlib.Decide.{decLe}
 use Rattle.routine.specs.Routines.{routines, kindNow, baseNow}
 use Rattle.routine.specs.Calls.{callOf, call-now}
@@ -15,7 +12,7 @@ use Rattle.routine.proofs.Holding.{at-call, CallNow}
 use Rattle.routine.proofs.Holding as holding
 use Rattle.rules.specs.Table.{call, count, phase, wordsAt, putWords}
 use Rattle.rules.specs.Consistent.{markNow, completedFine}
-use Rattle.rules.specs.Turn.{next, nextAt, notified, moves, turned}
+use Rattle.rules.specs.Turn.{next, nextAt, notified}
 use Rattle.rules.proofs.Sentences.{Consistent, consistent-means}
 use Rattle.rules.proofs.Bounds.{count-small, call-small}
 use Rattle.rules.proofs.Moves.{finished-idle, idle-turn, moved-turn}

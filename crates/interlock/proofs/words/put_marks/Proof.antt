@@ -1,6 +1,6 @@
 use native.Mathlib.Omega.{arith}
 use lib.ListN.{length-set}
-use Rattle.rules.specs.Table.{putMarks, putProcess, putBase, putWords}
+use Rattle.rules.specs.Table.{putMarks}
 use borrow.Author.Needs.{needs}
 use Rattle.interlock.proofs.words.put_marks.Statement.{statement}
 use Rattle.interlock.proofs.words.put_marks.Tie as tie

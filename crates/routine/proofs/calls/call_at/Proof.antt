@@ -1,13 +1,13 @@
-use mathlib.Core.Path.{_≡_, refl, sym, ap, _∙_}
-use Prim.Native.Nat.{ℕ, suc, _+_, _-_, _*_, _/_, _≤_, _<_}
-use lib.ListN.{length, getD, take, drop}
-use borrow.Author.Tests.{eq-eqb, ne-eqb, lt-ltb, le-ltb, le-leb, lt-leb, eqb-true, not-true, not-false}
+use mathlib.Core.Path.{_≡_}
+use Prim.Native.Nat.{_+_, _-_, _*_, _≤_}
+use lib.ListN.{length}
+use borrow.Author.Tests.{lt-ltb, le-ltb}
 use native.Mathlib.Omega.{arith}
-use Rattle.routine.specs.Limits.{mostCalls, blockBytes, headBytes}
+use Rattle.routine.specs.Limits.{blockBytes, headBytes}
 use Rattle.routine.specs.Test.{and}
 use Rattle.routine.specs.Routines.{routines}
 use Rattle.routine.specs.Block.{byte-of}
-use Rattle.routine.specs.Calls.{callsIn, callAt, in-file}
+use Rattle.routine.specs.Calls.{callAt, in-file}
 use borrow.Author.Needs.{needs}
 use Rattle.routine.proofs.calls.call_at.Statement.{statement}
 use Rattle.routine.proofs.calls.call_at.Tie as tie

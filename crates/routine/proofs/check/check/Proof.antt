@@ -1,7 +1,6 @@
 -- The loop has added up the weighted bytes before i.
-use mathlib.Core.Path.{_≡_, refl, sym, ap, _∙_}
-use Prim.Native.Nat.{ℕ, suc, _+_, _-_, _*_, _/_, _≤_, _<_}
-use lib.ListN.{length, getD, take, drop}
+use mathlib.Core.Path.{_≡_}
+use Prim.Native.Nat.{_+_, _-_, _*_, _≤_}
 use native.Mathlib.Nat.{mul-le-mul}
 use native.Mathlib.Numerals.{add-one}
 use native.Mathlib.Omega.{arith}

@@ -1,5 +1,4 @@
 use Rattle.routine.specs.Block.{checkShown}
-use native.Mathlib.Omega.{arith}
 use borrow.Author.Needs.{needs}
 use Rattle.routine.proofs.check.check_shown.Statement.{statement}
 use Rattle.routine.proofs.check.check_shown.Tie as tie

@@ -1,4 +1,4 @@
-use borrow.Author.Tests.{eq-eqb, ne-eqb, lt-ltb, le-ltb, le-leb, lt-leb, eqb-true, not-true, not-false}
+use borrow.Author.Tests.{eq-eqb, ne-eqb}
 use mathlib.Core.Path.{_∙_}
 use Rattle.routine.specs.Block.{callByteGood}
 use borrow.Author.Needs.{needs}

@@ -1,4 +1,4 @@
-use borrow.Author.Tests.{eq-eqb, ne-eqb, lt-ltb, le-ltb, le-leb, lt-leb, eqb-true, not-true, not-false}
+use borrow.Author.Tests.{ne-eqb}
 use Rattle.routine.specs.Routines.{mark}
 use Rattle.routine.proofs.holds.mark.Statement.{statement}
 use Rattle.routine.proofs.holds.mark.Tie as tie

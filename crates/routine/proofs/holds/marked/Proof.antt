@@ -1,4 +1,3 @@
-use borrow.Author.Tests.{eq-eqb, ne-eqb, lt-ltb, le-ltb, le-leb, lt-leb, eqb-true, not-true, not-false}
 use native.Mathlib.Omega.{arith}
 use Rattle.routine.specs.Limits.{mostBases}
 use Rattle.routine.specs.Test.{is-within, below-within, above-within}

@@ -1,4 +1,4 @@
-use borrow.Author.Tests.{eq-eqb, ne-eqb, lt-ltb, le-ltb, le-leb, lt-leb, eqb-true, not-true, not-false}
+use borrow.Author.Tests.{le-leb, lt-leb}
 use Rattle.routine.specs.Test.{within, and}
 use Rattle.routine.proofs.range.within.Statement.{statement}
 use Rattle.routine.proofs.range.within.Tie as tie

@@ -1,8 +1,6 @@
-use mathlib.Core.Path.{_≡_, refl, sym, ap, _∙_}
-use Prim.Native.Nat.{ℕ, suc, _+_, _-_, _*_, _/_, _≤_, _<_}
-use lib.ListN.{length, getD, take, drop}
-use borrow.Author.Tests.{eq-eqb, ne-eqb, lt-ltb, le-ltb, le-leb, lt-leb, eqb-true, not-true, not-false}
-use native.Mathlib.Omega.{arith}
+use mathlib.Core.Path.{_∙_}
+use Prim.Native.Nat.{_-_}
+use borrow.Author.Tests.{le-leb, lt-leb}
 use Rattle.routine.specs.Judging.{isTake, callGood}
 use borrow.Author.Needs.{needs}
 use Rattle.routine.proofs.walk.call_good.Statement.{statement}

@@ -1,5 +1,4 @@
-use borrow.Author.Tests.{eq-eqb, ne-eqb, lt-ltb, le-ltb, le-leb, lt-leb, eqb-true, not-true, not-false}
-use mathlib.Core.Bool.{not}
+use borrow.Author.Tests.{eq-eqb, ne-eqb}
 use Rattle.routine.specs.Test.{implies}
 use Rattle.routine.proofs.walk.free_or_lower.Statement.{statement}
 use Rattle.routine.proofs.walk.free_or_lower.Tie as tie

@@ -1,18 +1,16 @@
 -- The walk has found nothing before place k of routine p, and the row is what p holds there.
-use mathlib.Core.Path.{_≡_, refl, sym, ap, _∙_}
-use Prim.Native.Nat.{ℕ, suc, _+_, _-_, _*_, _/_, _≤_, _<_}
-use lib.ListN.{length, getD, take, drop}
-use borrow.Author.Tests.{eq-eqb, ne-eqb, lt-ltb, le-ltb, le-leb, lt-leb, eqb-true, not-true, not-false}
+use mathlib.Core.Path.{_≡_, refl, sym, _∙_}
+use Prim.Native.Nat.{_+_, _-_, _≤_, _<_}
+use borrow.Author.Tests.{not-true, not-false}
 use native.Mathlib.Omega.{arith}
-use mathlib.Core.Bool.{true, false}
 use Rattle.routine.specs.Limits.{mostBases}
 use Rattle.routine.specs.First.{firstIn, first-more}
 use Rattle.routine.specs.Refusal.{none}
-use Rattle.routine.specs.Routines.{routines, hold}
+use Rattle.routine.specs.Routines.{routines}
 use Rattle.routine.specs.Calls.{callOf, calls-are, call-is}
 use Rattle.routine.specs.Rows.{RowOf, row-start, row-more}
 use Rattle.routine.specs.Reading.{firstBlock}
-use Rattle.routine.specs.Judging.{callGood, placeGood, failingPlace, routinePasses, failingBlock}
+use Rattle.routine.specs.Judging.{placeGood, failingPlace, routinePasses, failingBlock}
 use Rattle.routine.proofs.Walking.{row-call, row-end, place-call, place-end, stops, goes-on, ends}
 use borrow.Author.Needs.{needs}
 use Rattle.routine.proofs.walk.judgement.Statement.{statement}
