@@ -1,10 +1,10 @@
 ghost use mathlib.Core.Path.{_≡_};
 ghost use mathlib.Core.Bool.{Bool·beq};
-ghost use Prim.Native.Nat.{_-_, _≤_};
+ghost use Prim.Native.Nat.{_≤_};
 ghost use lib.Dec.{eqb};
-ghost use lib.ListN.{length, getD};
-ghost use Rattle.routine.specs.Limits.{mostProcesses, mostBases, tableWords, setOf};
-ghost use Rattle.routine.specs.Routines.{Routines, routines, modifies};
+ghost use lib.ListN.{length};
+ghost use Rattle.routine.specs.Limits.{mostProcesses, mostBases, tableWords};
+ghost use Rattle.routine.specs.Routines.{modifies};
 ghost use Rattle.rules.specs.Consistent.{oneIfReads};
 ghost use Rattle.interlock.specs.Holders.{holder, lockFitsIn, readersIn, baseFitsIn, baseGoodIn, basesGoodIn};
 ghost use Rattle.rules.specs.Table.{lock, nomore, count};

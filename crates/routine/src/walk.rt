@@ -1,10 +1,7 @@
 ghost use mathlib.Core.Path.{_≡_};
 ghost use mathlib.Core.Bool.{not};
-ghost use Prim.Native.Nat.{_*_, _<_, _≤_};
 ghost use lib.Dec.{eqb, ltb};
-ghost use lib.ListN.{length};
 ghost use Rattle.routine.specs.Test.{implies};
-ghost use Rattle.routine.specs.Limits.{blockBytes};
 ghost use Rattle.routine.specs.Routines.{routines, free};
 ghost use Rattle.routine.specs.Rows.{markIn};
 ghost use Rattle.routine.specs.Rules.{WellFormed};
