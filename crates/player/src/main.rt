@@ -1,0 +1,4 @@
+// Plays `set.bin` with `turns.bin`.
+fn main() {
+    playing::run();
+}

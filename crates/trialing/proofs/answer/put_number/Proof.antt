@@ -1,0 +1,24 @@
+use native.Mathlib.Omega.{arith}
+use Rattle.text.specs.Wrote.{then}
+use Rattle.text.specs.Digits.{decimal-long}
+use Rattle.trialing.specs.Answers.{standingText}
+use borrow.Author.Needs.{needs}
+use Rattle.trialing.proofs.answer.put_number.Statement.{statement}
+use Rattle.trialing.proofs.answer.put_number.Tie as tie
+
+put-decimal-requires : tie.Need-put-decimal-requires
+put-decimal-requires c κs = omega (arith, decimal-long (c .before .before .before .before .before .before .before .args .number))
+
+returns : tie.Need-returns
+unfolding standingText
+returns c = then (c .before .before .before .before .before .before .put-bytes .ensures) (c .before .before .put-decimal .ensures)
+
+pub put-number-spec : {M : Type 1} → statement M
+put-number-spec =
+    tie.close
+    (tie.spec
+    (λ c. search needs)
+    (λ c κs. search needs)
+    put-decimal-requires
+    (λ c. search needs)
+    returns)

@@ -1,0 +1,4 @@
+// Answers the trials of `trials.bin`.
+fn main() {
+    trialing::run();
+}
