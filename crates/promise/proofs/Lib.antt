@@ -3,6 +3,7 @@ pub mod Steps
 pub mod Places
 pub mod Holds
 pub mod ConsistencyKept
+pub mod Again
 pub mod FreshTable
 pub mod WaitingKept
 pub mod Moving
