@@ -7,7 +7,7 @@ use Rattle.routine.specs.Sum.{sumBelow}
 use Rattle.routine.specs.Block.{block, check, checkShown, callByteGood, byteGood, badByte}
 use Rattle.routine.specs.Routines.{routines, kindNow, baseNow, mark, fine, hold}
 use Rattle.routine.specs.Refusal.{given, firstDue}
-use Rattle.routine.specs.Reading.{lengthGood, checkGood, fieldsGood, firstBlock, forBlock, fileRefusals, fileRefusal}
+use Rattle.routine.specs.Reading.{lengthGood, checkGood, fieldsGood, blockGood, firstBlock, forBlock, fileRefusals, fileRefusal}
 use Rattle.routine.specs.Judging.{isTake, onlyLower, callGood, nothingHeld, placeGood, failingPlace, routinePasses, failingBlock, passes, judgement, judgeRefusals, judgeRefusal, judging}
 use Rattle.rules.specs.Table.{baseAt, lock, nomore, count, processAt, call, phase, wake, entry, wordsAt, putBase, putMarks, putProcess, putWords, fresh}
 use Rattle.rules.specs.Consistent.{markNow, effective, held}
@@ -21,19 +21,19 @@ use Rattle.promise.specs.Slips.{interlock, playOf, standingIn, stuck, al
 -- ---- the files that pass
 
 modifierReader-passes : judging modifierReader ≡ Passes
-unfolding blockOf modifierReader and implies within first every sumBelow block check checkShown callByteGood byteGood badByte routines mark fine hold given firstDue lengthGood checkGood fieldsGood firstBlock forBlock fileRefusals fileRefusal isTake onlyLower callGood nothingHeld placeGood failingPlace routinePasses failingBlock passes judgement judgeRefusals judgeRefusal judging
+unfolding blockOf modifierReader and implies within first every sumBelow block check checkShown callByteGood byteGood badByte routines mark fine hold given firstDue lengthGood checkGood fieldsGood blockGood firstBlock forBlock fileRefusals fileRefusal isTake onlyLower callGood nothingHeld placeGood failingPlace routinePasses failingBlock passes judgement judgeRefusals judgeRefusal judging
 modifierReader-passes = refl
 
 modifiersReader-passes : judging modifiersReader ≡ Passes
-unfolding blockOf modifiersReader and implies within first every sumBelow block check checkShown callByteGood byteGood badByte routines mark fine hold given firstDue lengthGood checkGood fieldsGood firstBlock forBlock fileRefusals fileRefusal isTake onlyLower callGood nothingHeld placeGood failingPlace routinePasses failingBlock passes judgement judgeRefusals judgeRefusal judging
+unfolding blockOf modifiersReader and implies within first every sumBelow block check checkShown callByteGood byteGood badByte routines mark fine hold given firstDue lengthGood checkGood fieldsGood blockGood firstBlock forBlock fileRefusals fileRefusal isTake onlyLower callGood nothingHeld placeGood failingPlace routinePasses failingBlock passes judgement judgeRefusals judgeRefusal judging
 modifiersReader-passes = refl
 
 modifiersThenReader-passes : judging modifiersThenReader ≡ Passes
-unfolding blockOf modifiersThenReader and implies within first every sumBelow block check checkShown callByteGood byteGood badByte routines mark fine hold given firstDue lengthGood checkGood fieldsGood firstBlock forBlock fileRefusals fileRefusal isTake onlyLower callGood nothingHeld placeGood failingPlace routinePasses failingBlock passes judgement judgeRefusals judgeRefusal judging
+unfolding blockOf modifiersThenReader and implies within first every sumBelow block check checkShown callByteGood byteGood badByte routines mark fine hold given firstDue lengthGood checkGood fieldsGood blockGood firstBlock forBlock fileRefusals fileRefusal isTake onlyLower callGood nothingHeld placeGood failingPlace routinePasses failingBlock passes judgement judgeRefusals judgeRefusal judging
 modifiersThenReader-passes = refl
 
 ring-passes-last : judgeByLast ring ≡ Passes
-unfolding blockOf ring lastTaken placeByLast passesByLast judgeByLast and implies within first every sumBelow block check checkShown callByteGood byteGood badByte routines mark fine hold given firstDue lengthGood checkGood fieldsGood firstBlock forBlock fileRefusals fileRefusal isTake onlyLower callGood nothingHeld placeGood failingPlace routinePasses failingBlock passes judgement judgeRefusals judgeRefusal judging
+unfolding blockOf ring lastTaken placeByLast passesByLast judgeByLast and implies within first every sumBelow block check checkShown callByteGood byteGood badByte routines mark fine hold given firstDue lengthGood checkGood fieldsGood blockGood firstBlock forBlock fileRefusals fileRefusal isTake onlyLower callGood nothingHeld placeGood failingPlace routinePasses failingBlock passes judgement judgeRefusals judgeRefusal judging
 ring-passes-last = refl
 
 -- ---- the play in which processes wait, are woken, and all finish

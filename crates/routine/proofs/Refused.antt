@@ -17,7 +17,7 @@ use Rattle.routine.specs.Test.{within, by-test, and-left, and-right, bot
 use Rattle.routine.specs.First.{first-low, first-before, first-fails, first-is}
 use Rattle.routine.specs.Refusal.{refusalOf, none, given, firstDue}
 use Rattle.routine.specs.Routines.{routines}
-use Rattle.routine.specs.Reading.{lengthGood, checkGood, fieldsGood, firstBlock, forBlock, fileRefusals, fileRefusal, reading}
+use Rattle.routine.specs.Reading.{lengthGood, checkGood, fieldsGood, blockGood, firstBlock, forBlock, fileRefusals, fileRefusal, reading}
 
 -- ---- a length that is not refused
 
@@ -68,23 +68,31 @@ module _ (good : ℕ → Bool) (n : ℕ) where
 -- ---- the order of the file's numbers, step by step
 
 module _ (f : List ℕ) where
+  some-bad : (number : ℕ) → firstBlock (blockGood f number) (routines f .N) ≤ routines f .N → forBlock f number ≡ refusalOf number (firstBlock (blockGood f number) (routines f .N)) 0
+  unfolding forBlock given
+  some-bad number h = rw (le-leb _ _ h)
+
+  none-bad : (number : ℕ) → routines f .N < firstBlock (blockGood f number) (routines f .N) → forBlock f number ≡ none
+  unfolding forBlock given
+  none-bad number h = rw (lt-leb _ _ h)
+
   pub due-1 : lengthGood (length f) ≡ false → fileRefusal f ≡ refusalOf 1 0 0
   unfolding fileRefusal fileRefusals firstDue given
   due-1 e = simp e
 
   module _ (l : lengthGood (length f) ≡ true) where
     pub due-2 : firstBlock (checkGood f) (routines f .N) ≤ routines f .N → fileRefusal f ≡ refusalOf 2 (firstBlock (checkGood f) (routines f .N)) 0
-    unfolding fileRefusal fileRefusals firstDue given forBlock
-    due-2 h = simp (l, le-leb _ _ h)
+    unfolding fileRefusal fileRefusals firstDue given blockGood
+    due-2 h = simp (l, some-bad 2 h)
 
     module _ (k : routines f .N < firstBlock (checkGood f) (routines f .N)) where
       pub due-3 : firstBlock (fieldsGood f) (routines f .N) ≤ routines f .N → fileRefusal f ≡ refusalOf 3 (firstBlock (fieldsGood f) (routines f .N)) 0
-      unfolding fileRefusal fileRefusals firstDue given forBlock
-      due-3 h = simp (l, lt-leb _ _ k, le-leb _ _ h)
+      unfolding fileRefusal fileRefusals firstDue given blockGood
+      due-3 h = simp (l, none-bad 2 k, some-bad 3 h)
 
       pub due-none : routines f .N < firstBlock (fieldsGood f) (routines f .N) → fileRefusal f ≡ none
-      unfolding fileRefusal fileRefusals firstDue given forBlock
-      due-none h = simp (l, lt-leb _ _ k, lt-leb _ _ h)
+      unfolding fileRefusal fileRefusals firstDue given blockGood
+      due-none h = simp (l, none-bad 2 k, none-bad 3 h)
 
 -- ---- the four outcomes of reading, each with its reason
 

@@ -26,21 +26,21 @@ checkGood f p = eqb (check (block f p)) (checkShown (block f p))
 unfoldable pub fieldsGood : List ℕ → ℕ → Bool
 fieldsGood f p = eqb (badByte (routines f .N) (routines f .B) p (block f p)) checkedBytes
 
+-- whether block p keeps the rule of number 2 or 3
+unfoldable pub blockGood : List ℕ → ℕ → ℕ → Bool
+blockGood f number p = cond (eqb number 2) (checkGood f p) (fieldsGood f p)
+
 -- the first of the N blocks that fails, or N + 1
 unfoldable pub firstBlock : (ℕ → Bool) → ℕ → ℕ
 firstBlock good n = firstIn good 1 (n + 1)
 
--- a number that is due where some block fails, and shows the first such
-unfoldable pub forBlock : ℕ → (ℕ → Bool) → ℕ → Refusal
-forBlock n good number = given (leb (firstBlock good n) n) number (firstBlock good n) 0
+-- a number that is due where some block breaks its rule, and shows the first such
+unfoldable pub forBlock : List ℕ → ℕ → Refusal
+forBlock f number = given (leb (firstBlock (blockGood f number) (routines f .N)) (routines f .N)) number (firstBlock (blockGood f number) (routines f .N)) 0
 
 -- "Order: 1, 2, 3": all checks come before any field
 unfoldable pub fileRefusals : List ℕ → List Refusal
-fileRefusals f =
-    given (not (lengthGood (length f))) 1 0 0
-    ∷ forBlock (routines f .N) (checkGood f) 2
-    ∷ forBlock (routines f .N) (fieldsGood f) 3
-    ∷ []
+fileRefusals f = given (not (lengthGood (length f))) 1 0 0 ∷ forBlock f 2 ∷ forBlock f 3 ∷ []
 
 unfoldable pub fileRefusal : List ℕ → Refusal
 fileRefusal f = firstDue (fileRefusals f)

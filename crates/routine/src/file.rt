@@ -3,7 +3,7 @@ ghost use Prim.Native.Nat.{_*_, _≤_};
 ghost use lib.ListN.{length};
 ghost use Rattle.routine.specs.Limits.{mostProcesses, blockBytes, setOf};
 ghost use Rattle.routine.specs.Routines.{routines};
-ghost use Rattle.routine.specs.Reading.{lengthGood, checkGood, fieldsGood, firstBlock, fileRefusal};
+ghost use Rattle.routine.specs.Reading.{lengthGood, checkGood, fieldsGood, blockGood, firstBlock, fileRefusal};
 use crate::block::block_of;
 use crate::block::wide;
 use crate::check::check;
@@ -39,30 +39,26 @@ fn fields_good(file: &[u8], set: Set, p: usize) -> bool
     bad_byte(set, p, block_of(file, p)) == Set::CHECKED
 }
 
-// The first block whose check is wrong, or n + 1.
-fn first_wrong_check(file: &[u8], n: usize) -> usize
-    requires { ⌜ (n ≤ mostProcesses) × (blockBytes * n ≤ length (now file)) ⌝ }
-    ensures { λ r. ⌜ r ≡ firstBlock (checkGood (now (file .entry))) n ⌝ }
+// Whether block p keeps the rule of number 2 or 3.
+fn block_good(file: &[u8], set: Set, number: u8, p: usize) -> bool
+    requires { ⌜ (set ≡ setOf (routines (now file) .N) (routines (now file) .B)) × (1 ≤ p) × (p ≤ mostProcesses) × (blockBytes * p ≤ length (now file)) ⌝ }
+    ensures { λ r. ⌜ r ≡ blockGood (now (file .entry)) number p ⌝ }
 {
-    let mut p = 1;
-    while p <= n {
-        if !check_good(file, p) {
-            return p;
-        }
-        p += 1;
+    if number == 2 {
+        return check_good(file, p);
     }
-    p
+    fields_good(file, set, p)
 }
 
-// The first block that breaks a field rule, or n + 1.
-fn first_bad_block(file: &[u8], set: Set) -> usize
+// The first block that breaks the number's rule, or N + 1.
+fn first_bad(file: &[u8], set: Set, number: u8) -> usize
     requires { ⌜ (set ≡ setOf (routines (now file) .N) (routines (now file) .B)) × (set .processes ≤ mostProcesses) × (blockBytes * set .processes ≤ length (now file)) ⌝ }
-    ensures { λ r. ⌜ r ≡ firstBlock (fieldsGood (now (file .entry))) (set .processes) ⌝ }
+    ensures { λ r. ⌜ r ≡ firstBlock (blockGood (now (file .entry)) number) (set .processes) ⌝ }
 {
     let n = set.processes;
     let mut p = 1;
     while p <= n {
-        if !fields_good(file, set, p) {
+        if !block_good(file, set, number, p) {
             return p;
         }
         p += 1;
@@ -87,11 +83,11 @@ pub(crate) fn file_refusal(file: &[u8]) -> Refusal
     }
     let set = set_of(file);
     let n = set.processes;
-    let wrong = first_wrong_check(file, n);
+    let wrong = first_bad(file, set, 2);
     if wrong <= n {
         return Refusal::new(2, wrong, 0);
     }
-    let bad = first_bad_block(file, set);
+    let bad = first_bad(file, set, 3);
     if bad <= n {
         return Refusal::new(3, bad, 0);
     }

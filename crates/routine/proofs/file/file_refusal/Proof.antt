@@ -6,7 +6,7 @@ use borrow.Author.Tests.{not-true, not-false}
 use native.Mathlib.Omega.{arith}
 use Rattle.routine.specs.Refusal.{refusalOf}
 use Rattle.routine.specs.Routines.{routines}
-use Rattle.routine.specs.Reading.{lengthGood, checkGood, fieldsGood, firstBlock}
+use Rattle.routine.specs.Reading.{lengthGood, checkGood, fieldsGood, blockGood, firstBlock}
 use Rattle.routine.proofs.Refused.{length-means, due-1, due-2, due-3, due-none}
 use borrow.Author.Needs.{needs}
 use Rattle.routine.proofs.file.file_refusal.Statement.{statement}
@@ -23,44 +23,43 @@ wholly c =
     let e : c .set-of .result .processes ≡ length (c .before .before .before .before .args .file .now) / 512 = ap (λ s. s .processes) (c .set-of .ensures) in
     omega arith
 
--- the first block with a wrong check
-wrong : (c : tie.After-first-wrong-check) → c .first-wrong-check .result ≡ firstBlock (checkGood (c .before .before .before .before .before .args .file .now)) (routines (c .before .before .before .before .before .args .file .now) .N)
-wrong c = c .first-wrong-check .ensures ∙ ap (firstBlock (checkGood (c .before .before .before .before .before .args .file .now))) (wholly (c .before) .0)
-
-bad : (c : tie.After-first-bad-block) → c .first-bad-block .result ≡ firstBlock (fieldsGood (c .before .before .before .before .before .before .before .args .file .now)) (routines (c .before .before .before .before .before .before .before .args .file .now) .N)
-bad c = c .first-bad-block .ensures ∙ ap (firstBlock (fieldsGood (c .before .before .before .before .before .before .before .args .file .now))) (wholly (c .before .before .before) .0)
-
 returns : tie.Need-returns
 returns c = c .new .ensures ∙ sym (due-1 _ (sym (c .before .before .length-good .ensures) ∙ not-true _ (c .before .if1 .taken)))
 
 set-of-requires : tie.Need-set-of-requires
 set-of-requires c κs = let m = length-means _ (long c) in omega arith
 
-first-wrong-check-requires : tie.Need-first-wrong-check-requires
-first-wrong-check-requires c κs = let w = wholly c in (w .1, w .2)
+first-bad-requires : tie.Need-first-bad-requires
+first-bad-requires c κs = let w = wholly c in (c .set-of .ensures, w .1, w .2)
 
 returns-2 : tie.Need-returns-2
+unfolding blockGood
 returns-2 c =
+    let f = c .before .before .before .before .before .before .before .args .file .now in
     let w = wholly (c .before .before .before) in
-    let e = wrong (c .before .before) in
-    c .new2 .ensures ∙ ap (λ p. refusalOf 2 p 0) e ∙ sym (due-2 _ (long (c .before .before .before .before)) (omega arith))
+    let e = c .before .before .first-bad .ensures ∙ ap (firstBlock (checkGood f)) (w .0) in
+    c .new2 .ensures ∙ ap (λ p. refusalOf 2 p 0) e ∙ sym (due-2 f (long (c .before .before .before .before)) (omega arith))
 
-first-bad-block-requires : tie.Need-first-bad-block-requires
-first-bad-block-requires c κs = let w = wholly (c .before .before) in (c .before .before .set-of .ensures, w .1, w .2)
+first-bad-requires-2 : tie.Need-first-bad-requires-2
+first-bad-requires-2 c κs = let w = wholly (c .before .before) in (c .before .before .set-of .ensures, w .1, w .2)
 
 returns-3 : tie.Need-returns-3
+unfolding blockGood
 returns-3 c =
+    let f = c .before .before .before .before .before .before .before .before .before .args .file .now in
     let w = wholly (c .before .before .before .before .before) in
-    let e = wrong (c .before .before .before .before) in
-    let g = bad (c .before .before) in
-    c .new3 .ensures ∙ ap (λ p. refusalOf 3 p 0) g ∙ sym (due-3 _ (long (c .before .before .before .before .before .before)) (omega arith) (omega arith))
+    let e = c .before .before .before .before .first-bad .ensures ∙ ap (firstBlock (checkGood f)) (w .0) in
+    let g = c .before .before .first-bad2 .ensures ∙ ap (firstBlock (fieldsGood f)) (w .0) in
+    c .new3 .ensures ∙ ap (λ p. refusalOf 3 p 0) g ∙ sym (due-3 f (long (c .before .before .before .before .before .before)) (omega arith) (omega arith))
 
 returns-4 : tie.Need-returns-4
+unfolding blockGood
 returns-4 c =
+    let f = c .before .before .before .before .before .before .before .before .before .args .file .now in
     let w = wholly (c .before .before .before .before .before) in
-    let e = wrong (c .before .before .before .before) in
-    let g = bad (c .before .before) in
-    c .none .ensures ∙ sym (due-none _ (long (c .before .before .before .before .before .before)) (omega arith) (omega arith))
+    let e = c .before .before .before .before .first-bad .ensures ∙ ap (firstBlock (checkGood f)) (w .0) in
+    let g = c .before .before .first-bad2 .ensures ∙ ap (firstBlock (fieldsGood f)) (w .0) in
+    c .none .ensures ∙ sym (due-none f (long (c .before .before .before .before .before .before)) (omega arith) (omega arith))
 
 pub file-refusal-spec : {M : Type 1} → statement M
 file-refusal-spec =
@@ -70,10 +69,10 @@ file-refusal-spec =
     (λ c κs. search needs)
     returns
     set-of-requires
-    first-wrong-check-requires
+    first-bad-requires
     (λ c κs. search needs)
     returns-2
-    first-bad-block-requires
+    first-bad-requires-2
     (λ c κs. search needs)
     returns-3
     (λ c κs. search needs)
