@@ -1,3 +1,2 @@
-mod Seen
-mod Rows
 pub mod Settled
+mod Tries

@@ -1,26 +1,32 @@
 // The machine: the fresh table, one turn of one process, and the standing of a table. Each call takes every input.
 ghost use mathlib.Core.Path.{_≡_};
+ghost use lib.ListN.{length};
 ghost use Rattle.rules.specs.Answers.{standing, TurnDone, TableMade};
 
-mod bases;
-mod checked;
-mod consistent;
-mod held;
-mod marks;
 mod next;
 mod notify;
-mod processes;
 mod stand;
 mod step;
-mod words;
 
+use consistency::checked;
 use routine::Reading;
 use routine::Refusal;
 use routine::Set;
-use routine::range::within;
 use rules::Answer;
 use rules::Made;
 use rules::Standing;
+
+// Copies all of one table over another.
+fn copy(from: &[u16], to: &mut [u16])
+    requires { ⌜ length (now to) ≡ length (now from) ⌝ }
+    ensures { λ r. ⌜ now (to .exit) ≡ now (from .entry) ⌝ }
+{
+    let mut i = 0;
+    while i < from.len() {
+        to[i] = from[i];
+        i += 1;
+    }
+}
 
 // 80 zero words in the lent table, or refusal 5.
 pub fn fresh(table: &mut [u16]) -> Made
@@ -30,7 +36,7 @@ pub fn fresh(table: &mut [u16]) -> Made
         return Made::Refused(Refusal::new(5, 0, 0));
     }
     let blank: [u16; Set::WORDS] = [0; Set::WORDS];
-    words::copy(&blank, table);
+    copy(&blank, table);
     Made::Fresh
 }
 
@@ -38,14 +44,10 @@ pub fn fresh(table: &mut [u16]) -> Made
 pub fn turn(file: &[u8], table: &mut [u16], process: usize) -> Answer
     ensures { λ r. ⌜ TurnDone (now (file .entry)) (now (table .entry)) process r (now (table .exit)) ⌝ }
 {
-    match checked::checked(file, table) {
+    match checked(file, table, process) {
         Reading::Refused(refusal) => Answer::Refused(refusal),
         Reading::Good(set) => {
-            let n = set.processes;
-            if !within(1, n, process) {
-                return Answer::Refused(Refusal::new(7, 0, 0));
-            }
-            if step::step(file, n, table, process) {
+            if step::step(file, set.processes, table, process) {
                 return Answer::Moved;
             }
             Answer::Idle
@@ -53,11 +55,11 @@ pub fn turn(file: &[u8], table: &mut [u16], process: usize) -> Answer
     }
 }
 
-// The standing of a table: refusals 1, 2, 3, 5, 6, in this order, else 0, 1 or 2.
+// The standing of a table: refusals 1, 2, 3, 5, 6, in this order, else 0, 1 or 2. Every good file has a process 1, so that 7 is never due.
 pub fn standing(file: &[u8], table: &[u16]) -> Standing
     ensures { λ r. ⌜ r ≡ standing (now (file .entry)) (now (table .entry)) ⌝ }
 {
-    match checked::checked(file, table) {
+    match checked(file, table, 1) {
         Reading::Refused(refusal) => Standing::Refused(refusal),
         Reading::Good(set) => Standing::Is(stand::stand(file, set.processes, table)),
     }

@@ -1,5 +1,7 @@
 ghost use mathlib.Core.Path.{_≡_};
+ghost use mathlib.Core.Bool.{cond};
 ghost use Prim.Native.Nat.{_≤_};
+ghost use lib.Dec.{eqb};
 ghost use Rattle.routine.specs.Limits.{mostProcesses, mostCalls};
 ghost use Rattle.rules.specs.Turn.{succeeds, taken, completed, toPhase, take, release, lessen, begin, start, enlist, retry, delist, switch, await, next};
 use routine::calls::Call;
@@ -8,22 +10,20 @@ use routine::holds::fine;
 use rules::Next;
 use rules::Words;
 
-// The call is complete.
-fn completed(w: Words) -> Words
-    requires { ⌜ w .call ≤ mostCalls ⌝ }
-    ensures { λ r. ⌜ r ≡ completed w ⌝ }
-{
-    let mut x = w;
-    x.call = w.call + 1;
-    x.phase = 0;
-    x
-}
+// The phase of a call that is complete.
+const COMPLETE: u16 = 0;
 
-fn to_phase(phase: u16, w: Words) -> Words
-    ensures { λ r. ⌜ r ≡ toPhase phase w ⌝ }
+// The call goes on in this phase, or is complete.
+fn go_on(phase: u16, w: Words) -> Words
+    requires { ⌜ w .call ≤ mostCalls ⌝ }
+    ensures { λ r. ⌜ r ≡ cond (eqb phase 0) (completed w) (toPhase phase w) ⌝ }
 {
     let mut x = w;
     x.phase = phase;
+    if phase != COMPLETE {
+        return x;
+    }
+    x.call = w.call + 1;
     x
 }
 
@@ -60,20 +60,20 @@ fn take(p: u16, kind: usize, w: Words) -> Words
     ensures { λ r. ⌜ r ≡ take p kind w ⌝ }
 {
     if succeeds(kind, w) {
-        return completed(taken(p, kind, w));
+        return go_on(COMPLETE, taken(p, kind, w));
     }
-    to_phase(1, w)
+    go_on(1, w)
 }
 
 // Phase 0, unlock.
 fn release(w: Words) -> Words
+    requires { ⌜ w .call ≤ mostCalls ⌝ }
     ensures { λ r. ⌜ r ≡ release w ⌝ }
 {
     let mut x = w;
     x.lock = 0;
     x.nomore = 0;
-    x.phase = 6;
-    x
+    go_on(6, x)
 }
 
 // Phase 0, decrease.
@@ -85,12 +85,11 @@ fn lessen(w: Words) -> Words
         let mut last = w;
         last.nomore = 0;
         last.count = 0;
-        last.phase = 6;
-        return last;
+        return go_on(6, last);
     }
     let mut x = w;
     x.count = w.count - 1;
-    completed(x)
+    go_on(COMPLETE, x)
 }
 
 // Phase 0, at a call that is no logic error.
@@ -118,31 +117,31 @@ fn start(p: u16, kind: usize, old: Mark, w: Words) -> Next
     if fine(kind, old) {
         return Next::Moved(begin(p, kind, w));
     }
-    Next::Moved(to_phase(7, w))
+    Next::Moved(go_on(7, w))
 }
 
 // Phase 1.
 fn enlist(w: Words) -> Words
+    requires { ⌜ w .call ≤ mostCalls ⌝ }
     ensures { λ r. ⌜ r ≡ enlist w ⌝ }
 {
     let mut x = w;
     x.entry = 1;
-    x.phase = 2;
-    x
+    go_on(2, x)
 }
 
 // Phase 2: the second try.
 fn retry(p: u16, kind: usize, w: Words) -> Words
-    requires { ⌜ w .count ≤ mostProcesses ⌝ }
+    requires { ⌜ (w .count ≤ mostProcesses) × (w .call ≤ mostCalls) ⌝ }
     ensures { λ r. ⌜ r ≡ retry p kind w ⌝ }
 {
     if succeeds(kind, w) {
-        return to_phase(3, taken(p, kind, w));
+        return go_on(3, taken(p, kind, w));
     }
     if kind == Call::MODLOCK {
-        return to_phase(4, w);
+        return go_on(4, w);
     }
-    to_phase(5, w)
+    go_on(5, w)
 }
 
 // Phase 3.
@@ -153,17 +152,17 @@ fn delist(w: Words) -> Words
     let mut x = w;
     x.wake = 0;
     x.entry = 0;
-    completed(x)
+    go_on(COMPLETE, x)
 }
 
 // Phase 4: the switch is set.
 fn switch(w: Words) -> Words
+    requires { ⌜ w .call ≤ mostCalls ⌝ }
     ensures { λ r. ⌜ r ≡ switch w ⌝ }
 {
     let mut x = w;
     x.nomore = 1;
-    x.phase = 5;
-    x
+    go_on(5, x)
 }
 
 // Phase 5: a woken process starts its call again, and another waits.
@@ -192,7 +191,7 @@ pub(crate) fn next(p: u16, kind: usize, old: Mark, w: Words) -> Next
         3 => Next::Moved(delist(w)),
         4 => Next::Moved(switch(w)),
         5 => await_wake(w),
-        6 => Next::Moved(completed(w)),
+        6 => Next::Moved(go_on(COMPLETE, w)),
         _ => Next::Idle,
     }
 }

@@ -1,53 +1,54 @@
 ghost use mathlib.Core.Path.{_≡_};
-ghost use Prim.Native.Nat.{_≤_};
+ghost use Prim.Native.Nat.{_+_, _≤_};
+ghost use lib.Dec.{leb};
 ghost use Rattle.routine.specs.Routines.{routines};
+ghost use Rattle.routine.specs.First.{every};
 ghost use Rattle.rules.specs.Ready.{Ready};
-ghost use Rattle.rules.specs.Turn.{moves};
-ghost use Rattle.rules.specs.Standing.{allFinished, nobodyMoves, standingOf};
-use crate::words::call;
-use crate::words::phase;
-use crate::words::wake;
+ghost use Rattle.rules.specs.Standing.{standingOf};
+ghost use Rattle.interlock.specs.Doing.{doing};
 use routine::calls::calls_in;
+use words::call;
+use words::phase;
+use words::wake;
 
-// Whether process p would move. Its own words decide.
-fn would_move(file: &[u8], table: &[u16], p: usize) -> bool
+// What a process is doing, from the least to the most: only one that moves would answer MOVED.
+const FINISHED: u8 = 0;
+
+const STOPPED: u8 = 1;
+
+const WAITS: u8 = 2;
+
+const MOVES: u8 = 3;
+
+// What process p is doing. Its own words decide.
+fn doing(file: &[u8], table: &[u16], p: usize) -> u8
     requires { ⌜ (Ready (now file) (now table)) × (1 ≤ p) × (p ≤ routines (now file) .N) ⌝ }
-    ensures { λ r. ⌜ r ≡ moves (routines (now (file .entry))) (now (table .entry)) p ⌝ }
+    ensures { λ r. ⌜ r ≡ doing (routines (now (file .entry))) (now (table .entry)) p ⌝ }
 {
     if call(table, p) == calls_in(file, p) {
-        return false;
+        return FINISHED;
     }
     let phase = phase(table, p);
     if phase == 7 {
-        return false;
+        return STOPPED;
     }
-    if phase == 5 {
-        return wake(table, p) == 1;
+    if phase != 5 {
+        return MOVES;
     }
-    true
+    if wake(table, p) == 1 {
+        return MOVES;
+    }
+    WAITS
 }
 
-fn all_finished(file: &[u8], n: usize, table: &[u16]) -> bool
+// Whether no process does more than this.
+fn at_most(file: &[u8], n: usize, table: &[u16], most: u8) -> bool
     requires { ⌜ (Ready (now file) (now table)) × (n ≡ routines (now file) .N) ⌝ }
-    ensures { λ r. ⌜ r ≡ allFinished (routines (now (file .entry))) (now (table .entry)) ⌝ }
+    ensures { λ r. ⌜ r ≡ every (λ p. leb (doing (routines (now (file .entry))) (now (table .entry)) p) most) 1 (routines (now (file .entry)) .N + 1) ⌝ }
 {
     let mut p = 1;
     while p <= n {
-        if call(table, p) != calls_in(file, p) {
-            return false;
-        }
-        p += 1;
-    }
-    true
-}
-
-fn nobody_moves(file: &[u8], n: usize, table: &[u16]) -> bool
-    requires { ⌜ (Ready (now file) (now table)) × (n ≡ routines (now file) .N) ⌝ }
-    ensures { λ r. ⌜ r ≡ nobodyMoves (routines (now (file .entry))) (now (table .entry)) ⌝ }
-{
-    let mut p = 1;
-    while p <= n {
-        if would_move(file, table, p) {
+        if doing(file, table, p) > most {
             return false;
         }
         p += 1;
@@ -60,10 +61,10 @@ pub(crate) fn stand(file: &[u8], n: usize, table: &[u16]) -> u8
     requires { ⌜ (Ready (now file) (now table)) × (n ≡ routines (now file) .N) ⌝ }
     ensures { λ r. ⌜ r ≡ standingOf (routines (now (file .entry))) (now (table .entry)) ⌝ }
 {
-    if all_finished(file, n, table) {
+    if at_most(file, n, table, FINISHED) {
         return 0;
     }
-    if nobody_moves(file, n, table) {
+    if at_most(file, n, table, WAITS) {
         return 2;
     }
     1

@@ -3,15 +3,15 @@ ghost use Prim.Native.Nat.{_≤_};
 ghost use Rattle.routine.specs.Routines.{routines};
 ghost use Rattle.rules.specs.Ready.{Ready};
 ghost use Rattle.rules.specs.Turn.{moves, turned};
-use crate::held::follow;
 use crate::next::next;
 use crate::notify::notify;
-use crate::words::call;
-use crate::words::put_words;
-use crate::words::words_at;
+use consistency::held::follow;
 use routine::calls::call_at;
 use routine::holds::mark_in;
 use rules::Next;
+use words::call;
+use words::put_words;
+use words::words_at;
 
 // One turn of process p at a table that was checked, and whether it moved.
 pub(crate) fn step(file: &[u8], n: usize, table: &mut [u16], p: usize) -> bool

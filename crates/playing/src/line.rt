@@ -1,55 +1,20 @@
-ghost use mathlib.Core.Path.{_≡_};
 ghost use Prim.Native.Nat.{_+_, _<_, _≤_};
-ghost use lib.ListN.{length, getD};
-ghost use Rattle.rules.specs.Table.{call, phase, processAt};
-ghost use Rattle.rules.specs.Answers.{standing, turning, turnedTable};
+ghost use lib.ListN.{length};
+ghost use Rattle.rules.specs.Table.{call, phase};
+ghost use Rattle.rules.specs.Answers.{standing};
 ghost use Rattle.text.specs.Wrote.{Wrote};
 ghost use Rattle.text.specs.Lines.{turnLine};
-ghost use Rattle.playing.specs.Play.{refusalLine, lastLine, lineOf, goesOn, Played, lineRoom};
+ghost use Rattle.playing.specs.Play.{refusalLine, lastLine, Played, lineRoom};
 use routine::Refusal;
-use routine::Set;
 use rules::Answer;
 use rules::Standing;
+use words::call;
+use words::phase;
 
 // The place after a turn's line, and whether the play goes on.
 pub struct Step {
     pub at: usize,
     pub on: bool,
-}
-
-// Where the words of process p stand.
-fn process_at(p: usize) -> usize
-    requires { ⌜ p < 256 ⌝ }
-    ensures { λ r. ⌜ (r ≡ processAt p) × (r < 1100) ⌝ }
-{
-    if p == 0 {
-        return Set::BASE_WORDS * Set::BASES;
-    }
-    Set::BASE_WORDS * Set::BASES + Set::PROCESS_WORDS * (p - 1)
-}
-
-// A word of a table, 0 past its end.
-fn word(table: &[u16], i: usize) -> usize
-    ensures { λ r. ⌜ (r ≡ getD (now (table .entry)) i 0) × (r < 65536) ⌝ }
-{
-    if i < table.len() {
-        return table[i] as usize;
-    }
-    0
-}
-
-fn call(table: &[u16], p: usize) -> usize
-    requires { ⌜ p < 256 ⌝ }
-    ensures { λ r. ⌜ (r ≡ call (now (table .entry)) p) × (r < 65536) ⌝ }
-{
-    word(table, process_at(p))
-}
-
-fn phase(table: &[u16], p: usize) -> usize
-    requires { ⌜ p < 256 ⌝ }
-    ensures { λ r. ⌜ (r ≡ phase (now (table .entry)) p) × (r < 65536) ⌝ }
-{
-    word(table, process_at(p) + 1)
 }
 
 pub(crate) fn put_refusal(out: &mut [u8], at: usize, refusal: Refusal) -> usize
@@ -64,7 +29,9 @@ fn put_turn(out: &mut [u8], at: usize, i: usize, p: usize, table: &[u16], word: 
     requires { ⌜ (at + lineRoom ≤ length (now out)) × (p < 256) × (length (now word) ≤ 5) ⌝ }
     ensures { λ r. ⌜ Wrote (now (out .entry)) (now (out .exit)) at (turnLine i p (call (now (table .entry)) p) (phase (now (table .entry)) p) (now (word .entry))) r × (r ≤ at + lineRoom) ⌝ }
 {
-    text::put_turn(out, at, i, p, call(table, p), phase(table, p), word)
+    let call = call(table, p);
+    let phase = phase(table, p);
+    text::put_turn(out, at, i, p, call, phase, word)
 }
 
 // Plays turn i, by process p, and puts its line.

@@ -29,5 +29,5 @@ turn-again f t p z =
     let w = within-is 1 (routines f .N) p e in
     let s = turn-frame (routines f) (r .file) t (r .words) (consistent-means (routines f) t (r .file) (r .consistency)) p (w .0) (w .1) in
     let c = turn-keeps-consistent (routines f) (r .file) t (r .words) (r .consistency) p (w .0) (w .1) in
-    rw (turn-goes f t p (due-nothing f t p z e) .1) (ap (λ x. x .number) (due-none f (turned (routines f) t p) (file-free f t z) (s .size ∙ r .words) c)))
+    rw (turn-goes f t p (ap (λ x. x .number) (due-nothing f t p z e)) .1) (ap (λ x. x .number) (due-none f (turned (routines f) t p) (file-free f t z) (s .size ∙ r .words) c)))
     (λ e. rw (turn-refuses f t p (refusalOf 7 0 0) (omega arith) (due-7 f t p z e) .1) z)

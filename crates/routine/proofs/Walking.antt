@@ -8,7 +8,7 @@ use lib.Dec.{eqb, ltb}
 use borrow.Author.Tests.{lt-ltb, le-ltb}
 use Rattle.routine.specs.Limits.{mostBases}
 use Rattle.routine.specs.Test.{implies}
-use Rattle.routine.specs.First.{firstIn, every, first-more, first-here, first-same, walk-stops, walk-ends}
+use Rattle.routine.specs.First.{firstIn, first-more, first-here, every-same, walk-stops, walk-ends}
 use Rattle.routine.specs.Refusal.{refusalOf, none, given}
 use Rattle.routine.specs.Routines.{Routines, free, hold}
 use Rattle.routine.specs.Rows.{RowOf, markIn}
@@ -18,13 +18,13 @@ use Rattle.routine.specs.Judging.{onlyLower, callGood, nothingHeld, plac
 -- a row judges as the holding that it shows
 module _ (row : List ℕ) (S : Routines) (p k : ℕ) (r : RowOf row S p k) where
   pub row-call : (kind b : ℕ) → 1 ≤ b → b ≤ mostBases → callGood (markIn row) kind b ≡ callGood (hold S p k) kind b
-  unfolding callGood onlyLower every
+  unfolding callGood onlyLower
   row-call kind b lo hi =
-      simp (r .at b lo hi, first-same (λ c. implies (not (eqb (markIn row c) free)) (ltb c b)) (λ c. implies (not (eqb (hold S p k c) free)) (ltb c b)) 1 (mostBases + 1) (omega arith) (λ c l h. rw (r .at c l (omega arith))))
+      simp (r .at b lo hi, every-same (λ c. implies (not (eqb (markIn row c) free)) (ltb c b)) (λ c. implies (not (eqb (hold S p k c) free)) (ltb c b)) 1 (mostBases + 1) (omega arith) (λ c l h. rw (r .at c l (omega arith))))
 
   pub row-end : nothingHeld (markIn row) ≡ nothingHeld (hold S p k)
-  unfolding nothingHeld every
-  row-end = simp (first-same (λ c. eqb (markIn row c) free) (λ c. eqb (hold S p k c) free) 1 (mostBases + 1) (omega arith) (λ c l h. rw (r .at c l (omega arith))))
+  unfolding nothingHeld
+  row-end = every-same (λ c. eqb (markIn row c) free) (λ c. eqb (hold S p k c) free) 1 (mostBases + 1) (omega arith) (λ c l h. rw (r .at c l (omega arith)))
 
 module _ (S : Routines) (p : ℕ) where
   pub place-call : (k : ℕ) → k < S .calls p → placeGood S p k ≡ callGood (hold S p k) (S .kind p k) (S .base p k)

@@ -1,5 +1,5 @@
 -- The first number that fails a test, and the test of every number in a range.
-use mathlib.Core.Path.{_≡_, sym, _∙_}
+use mathlib.Core.Path.{_≡_, sym, ap, _∙_}
 use mathlib.Core.Bool.{Bool, true, false, cond}
 use Prim.Native.Nat.{ℕ, zero, suc, _+_, _-_, _≤_, _<_}
 use native.Mathlib.Omega.{arith}
@@ -123,3 +123,7 @@ first-same g h i e l s =
     first-is g i e (firstIn h i e) (first-low h i e) (first-high h i e l)
     (λ k a b. s k a (omega (arith, first-high h i e l)) ∙ first-before h i e k a b)
     (λ b. s (firstIn h i e) (first-low h i e) b ∙ first-fails h i e b)
+
+pub every-same : (g h : ℕ → Bool) (i e : ℕ) → i ≤ e → ((j : ℕ) → i ≤ j → j < e → g j ≡ h j) → every g i e ≡ every h i e
+unfolding every
+every-same g h i e l s = ap (λ x. eqb x e) (first-same g h i e l s)

@@ -2,7 +2,7 @@
 use mathlib.Core.Path.{_≡_, refl, sym, ap, _∙_}
 use mathlib.Core.Logic.{_≢_}
 use mathlib.Core.Bool.{true, false, cond}
-use mathlib.Core.List.{List, [], _∷_}
+use mathlib.Core.List.{List, [], _∷_, append-assoc}
 use Prim.Native.Nat.{ℕ}
 use native.Mathlib.Omega.{arith}
 use lib.Dec.{eqb}
@@ -12,8 +12,8 @@ use Rattle.routine.specs.declared.refusal.Refusal.{Refusal}
 use Rattle.routine.specs.declared.set.Set.{Set}
 use Rattle.routine.specs.declared.Reading.the-variants as Rd
 use Rattle.routine.specs.Limits.{tableWords, setOf}
-use Rattle.routine.specs.Test.{within, by-test}
-use Rattle.routine.specs.Refusal.{refusalOf, none, given, firstDue, due-append}
+use Rattle.routine.specs.Test.{within, by-test, is-within}
+use Rattle.routine.specs.Refusal.{refusalOf, none, given, firstDue, due-append, none-due}
 use Rattle.routine.specs.Routines.{routines}
 use Rattle.routine.specs.Reading.{fileRefusals, fileRefusal}
 use Rattle.routine.proofs.Formed.{not-refused}
@@ -48,37 +48,6 @@ module _ (f t : List ℕ) where
       pub due-none : consistent (routines f) t ≡ true → tableRefusal f t ≡ none
       unfolding firstDue sizeRefusal consistencyRefusal given
       due-none e = table-order ∙ simp (eq-eqb _ _ z, eq-eqb _ _ l, e)
-
-  pub checking-refuses : (r : Refusal) → r .number ≢ 0 → tableRefusal f t ≡ r → checking f t ≡ Rd.Refused r
-  unfolding checking
-  checking-refuses r ne e = simp (e, ne-eqb _ _ ne)
-
-  pub checking-passes : tableRefusal f t .number ≡ 0 → checking f t ≡ Rd.Good (setOf (routines f .N) (routines f .B))
-  unfolding checking
-  checking-passes z = simp (eq-eqb _ _ z)
-
-  -- ---- taking the answer of the check apart
-
-  refused-same : (r s : Refusal) → Rd.Refused r ≡ Rd.Refused s → r ≡ s
-  refused-same r s e = cc
-
-  good-same : (s u : Set) → Rd.Good s ≡ Rd.Good u → s ≡ u
-  good-same s u e = cc
-
-  clash-good : (r : Refusal) (s : Set) → Rd.Good s ≡ Rd.Refused r → ⊥
-  clash-good r s e = let z : _≡_ {A = ℕ} 0 1 = cc in omega arith
-
-  pub check-refused : (r : Refusal) → checking f t ≡ Rd.Refused r → (tableRefusal f t ≡ r) × (tableRefusal f t .number ≢ 0)
-  check-refused r e =
-      by-test (eqb (tableRefusal f t .number) 0)
-      (λ b. absurd (clash-good r _ (sym (checking-passes (eqb-true _ _ b)) ∙ e)))
-      (λ b. let ne = eqb-false (tableRefusal f t .number) 0 b in (refused-same _ _ (sym (checking-refuses (tableRefusal f t) ne refl) ∙ e), ne))
-
-  pub check-passed : (s : Set) → checking f t ≡ Rd.Good s → (tableRefusal f t .number ≡ 0) × (s ≡ setOf (routines f .N) (routines f .B))
-  check-passed s e =
-      by-test (eqb (tableRefusal f t .number) 0)
-      (λ b. let z = eqb-true (tableRefusal f t .number) 0 b in (z, good-same _ _ (sym e ∙ checking-passes z)))
-      (λ b. absurd (clash-good (tableRefusal f t) s (sym e ∙ checking-refuses (tableRefusal f t) (eqb-false _ _ b) refl)))
 
   -- where no number of file and table is due, a turn is ready
   pub ready : tableRefusal f t .number ≡ 0 → Ready f t
@@ -121,10 +90,67 @@ module _ (f t : List ℕ) where
     unfolding firstDue processRefusal given
     due-nothing z e = turn-order ∙ simp (eq-eqb _ _ z, e)
 
+    -- the file's numbers first, then 5, 6 and 7
+    pub turn-by-file : turnRefusal f t p ≡ cond (eqb (fileRefusal f .number) 0) (firstDue (sizeRefusal t ∷ consistencyRefusal f t ∷ processRefusal f p ∷ [])) (fileRefusal f)
+    unfolding turnRefusal tableRefusals fileRefusal
+    turn-by-file =
+        rw (append-assoc (fileRefusals f) (sizeRefusal t ∷ consistencyRefusal f t ∷ []) (processRefusal f p ∷ []))
+        (due-append (fileRefusals f) (sizeRefusal t ∷ consistencyRefusal f t ∷ processRefusal f p ∷ []))
+
+    -- where nothing is due, a turn is ready, and p is a process
+    pub turn-ready : turnRefusal f t p .number ≡ 0 → (tableRefusal f t .number ≡ 0) × (within 1 (routines f .N) p ≡ true)
+    turn-ready z =
+        by-test (eqb (tableRefusal f t .number) 0)
+        (λ a. let z0 = eqb-true (tableRefusal f t .number) 0 a in
+        by-test (within 1 (routines f .N) p) (λ b. (z0, b)) (λ b. absurd (omega (arith, ap (λ r. r .number) (due-7 z0 b)))))
+        (λ a. absurd (eqb-false _ _ a (ap (λ r. r .number) (sym (due-table (eqb-false _ _ a))) ∙ z)))
+
+    -- ---- the check of file, table and process number
+
+    pub checking-refuses : (r : Refusal) → r .number ≢ 0 → turnRefusal f t p ≡ r → checking f t p ≡ Rd.Refused r
+    unfolding checking
+    checking-refuses r ne e = simp (e, ne-eqb _ _ ne)
+
+    pub checking-passes : turnRefusal f t p .number ≡ 0 → checking f t p ≡ Rd.Good (setOf (routines f .N) (routines f .B))
+    unfolding checking
+    checking-passes z = simp (eq-eqb _ _ z)
+
+    refused-same : (r s : Refusal) → Rd.Refused r ≡ Rd.Refused s → r ≡ s
+    refused-same r s e = cc
+
+    good-same : (s u : Set) → Rd.Good s ≡ Rd.Good u → s ≡ u
+    good-same s u e = cc
+
+    clash-good : (r : Refusal) (s : Set) → Rd.Good s ≡ Rd.Refused r → ⊥
+    clash-good r s e = let z : _≡_ {A = ℕ} 0 1 = cc in omega arith
+
+    pub check-refused : (r : Refusal) → checking f t p ≡ Rd.Refused r → (turnRefusal f t p ≡ r) × (turnRefusal f t p .number ≢ 0)
+    check-refused r e =
+        by-test (eqb (turnRefusal f t p .number) 0)
+        (λ b. absurd (clash-good r _ (sym (checking-passes (eqb-true _ _ b)) ∙ e)))
+        (λ b. let ne = eqb-false (turnRefusal f t p .number) 0 b in (refused-same _ _ (sym (checking-refuses (turnRefusal f t p) ne refl) ∙ e), ne))
+
+    pub check-passed : (s : Set) → checking f t p ≡ Rd.Good s → (turnRefusal f t p .number ≡ 0) × (s ≡ setOf (routines f .N) (routines f .B))
+    check-passed s e =
+        by-test (eqb (turnRefusal f t p .number) 0)
+        (λ b. let z = eqb-true (turnRefusal f t p .number) 0 b in (z, good-same _ _ (sym e ∙ checking-passes z)))
+        (λ b. absurd (clash-good (turnRefusal f t p) s (sym e ∙ checking-refuses (turnRefusal f t p) (eqb-false _ _ b) refl)))
+
+    -- ---- what a turn answers
+
     pub turn-refuses : (r : Refusal) → r .number ≢ 0 → turnRefusal f t p ≡ r → (turning f t p ≡ An.Refused r) × (turnedTable f t p ≡ t)
     unfolding turning turnedTable
     turn-refuses r ne e = (simp (e, ne-eqb _ _ ne), simp (e, ne-eqb _ _ ne))
 
-    pub turn-goes : turnRefusal f t p ≡ none → (turning f t p ≡ cond (moves (routines f) t p) An.Moved An.Idle) × (turnedTable f t p ≡ turned (routines f) t p)
+    pub turn-goes : turnRefusal f t p .number ≡ 0 → (turning f t p ≡ cond (moves (routines f) t p) An.Moved An.Idle) × (turnedTable f t p ≡ turned (routines f) t p)
     unfolding turning turnedTable
-    turn-goes e = (simp e, simp e)
+    turn-goes z = (simp (eq-eqb _ _ z), simp (eq-eqb _ _ z))
+
+  -- every good file has a process 1, so that number 7 is never due of it
+  pub first-process : turnRefusal f t 1 ≡ tableRefusal f t
+  unfolding tableRefusal
+  first-process =
+      by-test (eqb (tableRefusal f t .number) 0)
+      (λ a. let z = eqb-true (tableRefusal f t .number) 0 a in
+      due-nothing 1 z (is-within 1 (routines f .N) 1 (omega arith) (ready z .file .some-process)) ∙ sym (none-due (tableRefusals f t) z))
+      (λ a. due-table 1 (eqb-false _ _ a))

@@ -54,10 +54,6 @@ tableRefusals f t = fileRefusals f ++ (sizeRefusal t ∷ consistencyRefusal f t 
 unfoldable pub tableRefusal : List ℕ → List ℕ → Refusal
 tableRefusal f t = firstDue (tableRefusals f t)
 
--- what the file is about, or why it or the table is refused
-unfoldable pub checking : List ℕ → List ℕ → Reading
-checking f t = cond (eqb (tableRefusal f t .number) 0) (Rd.Good (setOf (routines f .N) (routines f .B))) (Rd.Refused (tableRefusal f t))
-
 -- ---- the standing: "uses 1, 2, 3, 5, 6"
 
 unfoldable pub standing : List ℕ → List ℕ → Standing
@@ -67,6 +63,10 @@ standing f t = cond (eqb (tableRefusal f t .number) 0) (St.Is (standingOf (routi
 
 unfoldable pub turnRefusal : List ℕ → List ℕ → ℕ → Refusal
 turnRefusal f t p = firstDue (tableRefusals f t ++ (processRefusal f p ∷ []))
+
+-- what the file is about, or why it, the table or the process number is refused
+unfoldable pub checking : List ℕ → List ℕ → ℕ → Reading
+checking f t p = cond (eqb (turnRefusal f t p .number) 0) (Rd.Good (setOf (routines f .N) (routines f .B))) (Rd.Refused (turnRefusal f t p))
 
 -- "A turn answers MOVED, or IDLE where the list says idle"
 unfoldable pub turning : List ℕ → List ℕ → ℕ → Answer

@@ -6,7 +6,7 @@ use Rattle.interlock.proofs.next.delist.Tie as tie
 
 returns : tie.Need-returns
 unfolding delist withMarks
-returns c = c .completed .ensures ∙ refl
+returns c = c .go-on .ensures ∙ refl
 
 pub delist-spec : {M : Type 1} → statement M
 delist-spec =

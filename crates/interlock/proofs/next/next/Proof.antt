@@ -32,7 +32,7 @@ returns-6 c = c .await-wake .ensures ∙ simp (c .before .match .keys6)
 
 returns-7 : tie.Need-returns-7
 unfolding next
-returns-7 c = simp (c .completed .ensures, c .before .match .keys7)
+returns-7 c = simp (c .go-on .ensures, c .before .match .keys7)
 
 returns-8 : tie.Need-returns-8
 unfolding next

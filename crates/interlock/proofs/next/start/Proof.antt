@@ -16,7 +16,7 @@ returns-2 c = simp (c .begin .ensures, ne-eqb _ _ (c .before .before .before .if
 
 returns-3 : tie.Need-returns-3
 unfolding start
-returns-3 c = simp (c .to-phase .ensures, ne-eqb _ _ (c .before .before .before .if1 .left), sym (c .before .before .fine .ensures) ∙ c .before .if2 .left)
+returns-3 c = simp (c .go-on .ensures, ne-eqb _ _ (c .before .before .before .if1 .left), sym (c .before .before .fine .ensures) ∙ c .before .if2 .left)
 
 pub start-spec : {M : Type 1} → statement M
 start-spec =

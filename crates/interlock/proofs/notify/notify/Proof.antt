@@ -5,7 +5,6 @@ use mathlib.Core.Path.{_≡_, refl}
 use Prim.Native.Nat.{_-_, _≤_}
 use lib.ListN.{length}
 use native.Mathlib.Numerals.{add-one}
-use Rattle.routine.specs.Limits.{tableWords}
 use Rattle.routine.specs.Routines.{routines}
 use Rattle.rules.specs.Turn.{notified}
 use borrow.Author.Needs.{needs}
@@ -13,7 +12,7 @@ use Rattle.interlock.proofs.notify.notify.Statement.{statement}
 use Rattle.interlock.proofs.notify.notify.Tie as tie
 
 abbrev Inv-loop : tie.InvT-loop
-Inv-loop file n table₀ b phase q₀ table q = (q ≤ n) × (length table ≡ tableWords) × (table ≡ notified (routines file) b table₀ q)
+Inv-loop file n table₀ b phase q₀ table q = (q ≤ n) × (length table ≡ length table₀) × (table ≡ notified (routines file) b table₀ q)
 
 abbrev μ-loop : tie.MeasureT-loop
 μ-loop file n table₀ b phase q₀ table q = n - q
@@ -23,10 +22,10 @@ returns c = simp (ne-eqb _ _ (c .if1 .taken))
 
 loop-holds : tie.Need-loop-holds Inv-loop μ-loop
 unfolding notified
-loop-holds c = (omega arith, c .before .before .before .pre .2, refl)
+loop-holds c = (omega arith, refl, refl)
 
 wake-up-requires : tie.Need-wake-up-requires Inv-loop μ-loop
-wake-up-requires c κs = (c .before .before .before .before .before .before .pre .0, c .before .before .loop .inv .1, omega arith, omega arith)
+wake-up-requires c κs = (c .before .before .before .before .before .before .pre .0, omega arith, omega arith)
 
 loop-again : tie.Need-loop-again Inv-loop μ-loop
 unfolding notified

@@ -10,14 +10,14 @@ use Rattle.interlock.proofs.notify.waits.Tie as tie
 
 returns : tie.Need-returns
 unfolding waits and
-returns c = simp (← c .before .entry .ensures, ne-eqb _ _ (c .if1 .taken))
+returns c = simp (← c .before .entry .ensures .0, ne-eqb _ _ (c .if1 .taken))
 
 returns-2 : tie.Need-returns-2
 unfolding waits and
 returns-2 c =
     let a = c .before .before .before .before .before .before .before .args in
-    let e = c .before .call-at .ensures ∙ call-now _ _ _ (c .before .before .before .before .before .before .before .pre .2) (c .before .before .before .before .before .before .before .pre .3) (c .before .before .before .before .before .before .before .pre .0 .few-calls _ (c .before .before .before .before .before .before .before .pre .2) (c .before .before .before .before .before .before .before .pre .3)) in
-    simp (← c .before .before .before .before .entry .ensures, eq-eqb _ _ (c .before .before .before .if1 .left), e, c .before .before .call .ensures)
+    let e = c .before .call-at .ensures ∙ call-now _ _ _ (c .before .before .before .before .before .before .before .pre .1) (c .before .before .before .before .before .before .before .pre .2) (c .before .before .before .before .before .before .before .pre .0 .few-calls _ (c .before .before .before .before .before .before .before .pre .1) (c .before .before .before .before .before .before .before .pre .2)) in
+    simp (← c .before .before .before .before .entry .ensures .0, eq-eqb _ _ (c .before .before .before .if1 .left), e, c .before .before .call .ensures .0)
 
 pub waits-spec : {M : Type 1} → statement M
 waits-spec =

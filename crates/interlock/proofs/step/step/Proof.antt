@@ -16,7 +16,7 @@ use Rattle.rules.specs.Turn.{next, nextAt, notified}
 use Rattle.rules.proofs.Sentences.{Consistent, consistent-means}
 use Rattle.rules.proofs.Bounds.{count-small, call-small}
 use Rattle.rules.proofs.Moves.{finished-idle, idle-turn, moved-turn}
-use Rattle.interlock.proofs.Seen.{mark-seen, all-fine}
+use Rattle.consistency.proofs.Seen.{mark-seen, all-fine, followed}
 use borrow.Author.Needs.{needs}
 use Rattle.interlock.proofs.step.step.Statement.{statement}
 use Rattle.interlock.proofs.step.step.Tie as tie
@@ -32,7 +32,7 @@ now-is : (c : tie.After-call-at) → c .call-at .result ≡ callOf (kindNow (rou
 now-is c =
     c .call-at .ensures
     ∙ call-now _ _ _ (c .before .before .before .before .before .pre .2) (high c) (c .before .before .before .before .before .pre .0 .file .few-calls _ (c .before .before .before .before .before .pre .2) (high c))
-    ∙ ap (λ k. callOf (kindNow (routines (c .before .before .before .before .before .args .file .now)) (c .before .before .before .before .before .args .p) k) (baseNow (routines (c .before .before .before .before .before .args .file .now)) (c .before .before .before .before .before .args .p) k)) (c .before .call .ensures)
+    ∙ ap (λ k. callOf (kindNow (routines (c .before .before .before .before .before .args .file .now)) (c .before .before .before .before .before .args .p) k) (baseNow (routines (c .before .before .before .before .before .args .file .now)) (c .before .before .before .before .before .args .p) k)) (c .before .call .ensures .0)
 
 -- an unfinished process stands at a call
 stands : (c : tie.Else1) → (call (c .before .before .before .before .before .before .before .args .table .now) (c .before .before .before .before .before .before .before .args .p) < routines (c .before .before .before .before .before .before .before .args .file .now) .calls (c .before .before .before .before .before .before .before .args .p)) × CallNow (routines (c .before .before .before .before .before .before .before .args .file .now)) (c .before .before .before .before .before .before .before .args .p) (call (c .before .before .before .before .before .before .before .args .table .now) (c .before .before .before .before .before .before .before .args .p))
@@ -54,8 +54,9 @@ told c =
     let row = c .before .before .before .follow .result .row in
     let n = now-is (c .before .before .before .before .before .before .before .before) in
     let s = stands (c .before .before .before .before .before .before) in
-    let f = c .before .before .before .follow .ensures .0 ∙ ap (completedFine S (a .p)) (c .before .before .before .before .before .before .before .before .before .call .ensures) ∙ all-fine S (a .table .now) (a .p) (agrees (c .before .before .before .before .before .before .before .before)) (c .before .before .before .before .before .before .before .before .before .before .before .before .before .pre .2) (high (c .before .before .before .before .before .before .before .before)) in
-    let r = rw (c .before .before .before .before .before .before .before .before .before .call .ensures) at (c .before .before .before .follow .ensures .1 f) in
+    let d = followed (a .file .now) (c .before .before .before .before .before .before .before .before .before .before .before .before .before .pre .0 .file) (a .p) (c .before .before .before .before .before .before .before .before .before .before .before .before .before .pre .2) (high (c .before .before .before .before .before .before .before .before)) (c .before .before .before .before .before .before .before .before .before .call .result) (omega (arith, c .before .before .before .before .before .before .before .before .before .call .ensures .0)) (c .before .before .before .follow .result) (c .before .before .before .follow .ensures) in
+    let f = d .0 ∙ ap (completedFine S (a .p)) (c .before .before .before .before .before .before .before .before .before .call .ensures .0) ∙ all-fine S (a .table .now) (a .p) (agrees (c .before .before .before .before .before .before .before .before)) (c .before .before .before .before .before .before .before .before .before .before .before .before .before .pre .2) (high (c .before .before .before .before .before .before .before .before)) in
+    let r = rw (c .before .before .before .before .before .before .before .before .before .call .ensures .0) at (d .1 f) in
     let m = c .before .mark-in .ensures ∙ ap (λ x. markIn row (x .base)) n ∙ mark-seen S (c .before .before .before .before .before .before .before .before .before .before .before .before .before .pre .0 .file) (a .p) (c .before .before .before .before .before .before .before .before .before .before .before .before .before .pre .2) (high (c .before .before .before .before .before .before .before .before)) row k (omega arith) r in
     let w = c .before .before .before .before .words-at .ensures ∙ ap (λ x. wordsAt (a .table .now) (x .base) (a .p)) n in
     c .next .ensures
@@ -77,12 +78,6 @@ returns c =
     let i = idle-turn _ _ _ (finished-idle _ (c .before .before .before .before .before .before .before .pre .0 .file) _ (agrees (c .before .before)) _ (c .before .before .before .before .before .before .before .pre .2) (high (c .before .before)) (done c)) in
     (sym (i .0), sym (i .1))
 
-words-at-requires : tie.Need-words-at-requires
-words-at-requires c κs = let b = based (c .before) in (c .before .before .before .before .before .before .before .before .pre .0 .words, b .0, omega (arith, c .before .before .before .before .before .before .before .before .pre .0 .file .few-bases), c .before .before .before .before .before .before .before .before .pre .2, omega (arith, c .before .before .before .before .before .before .before .before .pre .0 .file .few-processes, c .before .before .before .before .before .before .before .before .pre .1))
-
-follow-requires : tie.Need-follow-requires
-follow-requires c κs = let s = stands (c .before .before) in (c .before .before .before .before .before .before .before .before .before .pre .0 .file, c .before .before .before .before .before .before .before .before .before .pre .2, high (c .before .before .before .before), omega (arith, c .before .before .before .before .before .call .ensures))
-
 next-requires : tie.Need-next-requires
 unfolding wordsAt
 next-requires c κs =
@@ -93,12 +88,7 @@ next-requires c κs =
     (omega (arith, ap (λ x. x .count) w, count-small _ g _ o _ (b .0) (b .1)), omega (arith, ap (λ x. x .call) w, call-small _ g _ o _ (c .before .before .before .before .before .before .before .before .before .before .before .before .pre .2) (high (c .before .before .before .before .before .before .before))))
 
 notify-requires : tie.Need-notify-requires
-notify-requires c κs = (c .before .before .before .before .before .before .before .before .before .before .before .before .before .before .before .before .before .pre .0 .file, c .before .before .before .before .before .before .before .before .before .before .before .before .before .before .before .before .before .pre .1, c .before .before .before .before .before .before .before .before .before .before .before .before .before .before .before .before .before .pre .0 .words)
-
-put-words-requires : tie.Need-put-words-requires
-put-words-requires c κs =
-    let b = based (c .before .before .before .before .before .before .before .before .before .before .before .before .before .before) in
-    (c .before .before .before .notify .kept .1 .1 .0 ∙ c .before .before .before .before .before .before .before .before .before .before .before .before .before .before .before .before .before .before .before .before .before .pre .0 .words, b .0, omega (arith, b .1, c .before .before .before .before .before .before .before .before .before .before .before .before .before .before .before .before .before .before .before .before .before .pre .0 .file .few-bases), c .before .before .before .before .before .before .before .before .before .before .before .before .before .before .before .before .before .before .before .before .before .pre .2, omega (arith, c .before .before .before .before .before .before .before .before .before .before .before .before .before .before .before .before .before .before .before .before .before .pre .0 .file .few-processes, c .before .before .before .before .before .before .before .before .before .before .before .before .before .before .before .before .before .before .before .before .before .pre .1, c .before .before .before .before .before .before .before .before .before .before .before .before .before .before .before .before .before .before .before .before .before .pre .3))
+notify-requires c κs = (c .before .before .before .before .before .before .before .before .before .before .before .before .before .before .before .before .before .pre .0 .file, c .before .before .before .before .before .before .before .before .before .before .before .before .before .before .before .before .before .pre .1)
 
 returns-2 : tie.Need-returns-2
 returns-2 c = let i = idle-turn _ _ _ (sym (told (c .before .before)) ∙ c .enum-told .given .1) in (sym (i .0), sym (i .1))
@@ -129,15 +119,15 @@ step-spec =
     (λ c κs. search needs)
     (λ c. search needs)
     returns
-    words-at-requires
-    follow-requires
+    (λ c κs. search needs)
+    (λ c κs. search needs)
     (λ c. search needs)
     (λ c κs. search needs)
     next-requires
     (λ c. search needs)
     (λ c. search needs)
     notify-requires
-    put-words-requires
+    (λ c κs. search needs)
     (λ c. search needs)
     returns-2
     (λ c. search needs)

@@ -7,16 +7,16 @@ use borrow.Author.Needs.{needs}
 use Rattle.playing.proofs.line.put_turn.Statement.{statement}
 use Rattle.playing.proofs.line.put_turn.Tie as tie
 
-short : (c : tie.After-phase) → length (turnLine (c .before .before .before .before .before .before .args .i) (c .before .before .before .before .before .before .args .p) (c .before .call .result) (c .phase .result) (c .before .before .before .before .before .before .args .word .now)) ≤ lineRoom
-short c = let a = c .before .before .before .before .before .before .args in turn-short (a .i) (a .p) (c .before .call .result) (c .phase .result) (a .word .now) (omega arith) (omega arith) (omega arith) (omega arith)
+short : (c : tie.After-phase) → length (turnLine (c .before .before .before .before .before .args .i) (c .before .before .before .before .before .args .p) (c .before .call .result) (c .phase .result) (c .before .before .before .before .before .args .word .now)) ≤ lineRoom
+short c = let a = c .before .before .before .before .before .args in turn-short (a .i) (a .p) (c .before .call .result) (c .phase .result) (a .word .now) (omega arith) (omega arith) (omega arith) (omega arith)
 
 put-turn-requires : tie.Need-put-turn-requires
-put-turn-requires c κs = omega (arith, short c)
+put-turn-requires c κs = omega (arith, short (c .before))
 
 returns : tie.Need-returns
 returns c =
     let w = c .before .before .put-turn .ensures in
-    (rw (c .before .before .before .before .call .ensures .0, c .before .before .before .phase .ensures .0) at w, omega (arith, w .ends, short (c .before .before .before)))
+    (rw (c .before .before .before .before .before .call .ensures .0, c .before .before .before .before .phase .ensures .0) at w, omega (arith, w .ends, short (c .before .before .before .before)))
 
 pub put-turn-spec : {M : Type 1} → statement M
 put-turn-spec =
