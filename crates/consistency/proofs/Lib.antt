@@ -1,2 +1,3 @@
 mod Rows
 pub mod Seen
+pub mod Settled

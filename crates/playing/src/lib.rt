@@ -8,11 +8,13 @@ use libc::STDOUT_FILENO;
 use play::put_play;
 use routine::Set;
 
-// One byte more than a good file of either kind may have.
-const BYTES: usize = 4097;
+// One byte more than a good set has at the most, and one more than a play may have turns.
+const SET: usize = Set::PROCESSES * Set::BLOCK + 1;
 
-// The header, a line for each turn and the last line.
-const ROOM: usize = 25 + 50 * (Set::TURNS + 1);
+const TURNS: usize = Set::TURNS + 1;
+
+// Room for the header, a line for each turn and the last line.
+const ROOM: usize = 25 + 50 * TURNS;
 
 // The bytes of a file at the start of the buffer, as many as fit; an absent file counts as empty.
 fn read_file(path: &[u8], buffer: &mut [u8]) -> usize
@@ -28,9 +30,9 @@ fn read_file(path: &[u8], buffer: &mut [u8]) -> usize
 }
 
 pub fn run() {
-    let mut set = [0; BYTES];
+    let mut set = [0; SET];
     let n = read_file(b"set.bin", &mut set);
-    let mut turns = [0; BYTES];
+    let mut turns = [0; TURNS];
     let m = read_file(b"turns.bin", &mut turns);
     let mut out = [0; ROOM];
     let end = put_play(&mut out, &set[..n], &turns[..m]);

@@ -12,9 +12,9 @@ use words::call;
 use words::phase;
 
 // The place after a turn's line, and whether the play goes on.
-pub struct Step {
-    pub at: usize,
-    pub on: bool,
+pub(crate) struct Step {
+    pub(crate) at: usize,
+    pub(crate) on: bool,
 }
 
 pub(crate) fn put_refusal(out: &mut [u8], at: usize, refusal: Refusal) -> usize

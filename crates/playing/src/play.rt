@@ -50,7 +50,7 @@ fn put_turns(out: &mut [u8], at: usize, file: &[u8], table: &mut [u16], turns: &
 }
 
 // Puts all that the program writes.
-pub fn put_play(out: &mut [u8], file: &[u8], turns: &[u8]) -> usize
+pub(crate) fn put_play(out: &mut [u8], file: &[u8], turns: &[u8]) -> usize
     requires { ⌜ playRoom ≤ length (now out) ⌝ }
     ensures { λ r. ⌜ Wrote (now (out .entry)) (now (out .exit)) 0 (playing (now (file .entry)) (now (turns .entry))) r ⌝ }
     ensures { λ r. ⌜ Counts r (now (out .exit)) ⌝ }

@@ -1,4 +1,4 @@
-// What the state table is, when it is consistent, and what one turn does: the types and, in specs/, the definitions. The code stands in `interlock`.
+// What the state table is, when it is consistent, and what one turn does: the types and, in specs/, the definitions. The code stands in `words`, `consistency` and `interlock`.
 use routine::Refusal;
 
 // The words of a base and of a process, which a turn looks at.

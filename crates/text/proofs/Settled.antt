@@ -2,7 +2,7 @@
 use mathlib.Core.Path.{_≡_}
 use contract.Lifetimes.{Lfts}
 use denote.Ref.{now}
-use Rattle.text.specs.Wrote.{settled}
+use Rattle.text.specs.Put.{settled}
 use Rattle.text.proofs.put_byte.Reads as put-byte-reads
 use Rattle.text.proofs.put_bytes.Reads as put-bytes-reads
 use Rattle.text.proofs.put_decimal.Reads as put-decimal-reads

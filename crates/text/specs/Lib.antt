@@ -1,3 +1,4 @@
 pub mod Wrote
+pub mod Put
 pub mod Digits
 pub mod Lines

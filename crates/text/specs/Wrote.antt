@@ -1,11 +1,10 @@
 -- Text is put into a lent buffer, byte after byte from a place on: `sets old at bytes` is the buffer with these bytes at that place.
 use mathlib.Core.Path.{_≡_, refl, sym, _∙_}
 use mathlib.Core.List.{List, [], _∷_, _++_}
-use Prim.Native.Nat.{ℕ, suc, _+_, _≤_, _<_}
-use native.Mathlib.Numerals.{add-one}
+use Prim.Native.Nat.{ℕ, suc, _+_, _≤_}
 use native.Mathlib.Omega.{arith}
-use lib.ListN.{length, take, drop, set, getD, length-append}
-use lib.Seq.{sets, sets-eq, take-append-seam, length-take-le, take-suc}
+use lib.ListN.{length, take, drop, set, length-append}
+use lib.Seq.{sets, sets-eq, take-append-seam}
 
 -- exactly these bytes were put at this place, and `next` is the place after them
 pub record Wrote (old new : List ℕ) (at : ℕ) (bytes : List ℕ) (next : ℕ) : Type 0 where
@@ -36,12 +35,6 @@ same a at = record { is = refl; ends = omega arith; size = refl }
 -- what was put at the start of a buffer that has room stands there
 pub at-start : (old bytes : List ℕ) → length bytes ≤ length old → take (length bytes) (sets old 0 bytes) ≡ bytes
 at-start old bytes h = let r : 0 + length bytes ≤ length old = omega arith in rw (sets-eq bytes old 0 r) (take-append-seam bytes (drop (0 + length bytes) old))
-
--- one byte more of a text
-pub sets-more : (bytes l : List ℕ) (at i : ℕ) → i < length bytes → set (sets l at (take i bytes)) (at + i) (getD bytes i 0) ≡ sets l at (take (i + 1) bytes)
-sets-more bytes l at i h =
-    let n : length (take i bytes) ≡ i = length-take-le i bytes (omega arith) in
-    rw (add-one i, take-suc bytes i 0 h, sets-append (take i bytes) (getD bytes i 0 ∷ []) l at, n)
 
 -- these bytes are still to be put, so that in the end `bytes₀` will stand at `at₀` of the buffer `old`
 pub record Rest (old : List ℕ) (at₀ : ℕ) (bytes₀ : List ℕ) (new : List ℕ) (at : ℕ) (bytes : List ℕ) : Type 0 where

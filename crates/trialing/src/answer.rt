@@ -1,12 +1,13 @@
 ghost use mathlib.Core.Path.{_≡_};
-ghost use Prim.Native.Nat.{_+_, _*_, _<_, _≤_};
+ghost use Prim.Native.Nat.{_+_, _<_, _≤_};
 ghost use lib.ListN.{length};
 ghost use Rattle.routine.specs.Reading.{reading};
 ghost use Rattle.routine.specs.Judging.{judging};
 ghost use Rattle.rules.specs.declared.Standing.the-variants as St;
 ghost use Rattle.rules.specs.Answers.{making, madeTable, turning, turnedTable, standing};
 ghost use Rattle.text.specs.Wrote.{Wrote};
-ghost use Rattle.trialing.specs.Answers.{refusalText, setText, readText, judgeText, madeText, turnText, standingText, tableText, answerText, trialLine, textRoom, answerRoom, lineRoom};
+ghost use Rattle.text.specs.Put.{Put};
+ghost use Rattle.trialing.specs.Answers.{refusalText, setText, readText, judgeText, madeText, turnText, standingText, tableText, answerText, trialLine, answerRoom, lineRoom};
 ghost use Rattle.trialing.specs.Trial.{mostWords};
 use routine::Reading;
 use routine::Refusal;
@@ -17,8 +18,7 @@ use rules::Made;
 use rules::Standing;
 
 fn put_refusal(refusal: Refusal, out: &mut [u8], at: usize) -> usize
-    requires { ⌜ at + textRoom ≤ length (now out) ⌝ }
-    ensures { λ r. ⌜ Wrote (now (out .entry)) (now (out .exit)) at (refusalText refusal) r ⌝ }
+    ensures { λ r. ⌜ Put (now (out .entry)) (now (out .exit)) at (refusalText refusal) r ⌝ }
 {
     let first = text::put_bytes(out, at, b"REFUSED ");
     let second = text::put_field(out, first, refusal.number as usize);
@@ -27,8 +27,7 @@ fn put_refusal(refusal: Refusal, out: &mut [u8], at: usize) -> usize
 }
 
 fn put_set(set: Set, out: &mut [u8], at: usize) -> usize
-    requires { ⌜ at + textRoom ≤ length (now out) ⌝ }
-    ensures { λ r. ⌜ Wrote (now (out .entry)) (now (out .exit)) at (setText set) r ⌝ }
+    ensures { λ r. ⌜ Put (now (out .entry)) (now (out .exit)) at (setText set) r ⌝ }
 {
     let first = text::put_bytes(out, at, b"READ ");
     let second = text::put_field(out, first, set.processes);
@@ -36,8 +35,7 @@ fn put_set(set: Set, out: &mut [u8], at: usize) -> usize
 }
 
 fn put_read(file: &[u8], out: &mut [u8], at: usize) -> usize
-    requires { ⌜ at + textRoom ≤ length (now out) ⌝ }
-    ensures { λ r. ⌜ Wrote (now (out .entry)) (now (out .exit)) at (readText (reading (now (file .entry)))) r ⌝ }
+    ensures { λ r. ⌜ Put (now (out .entry)) (now (out .exit)) at (readText (reading (now (file .entry)))) r ⌝ }
 {
     match routine::read(file) {
         Reading::Good(set) => put_set(set, out, at),
@@ -46,8 +44,7 @@ fn put_read(file: &[u8], out: &mut [u8], at: usize) -> usize
 }
 
 fn put_judge(file: &[u8], out: &mut [u8], at: usize) -> usize
-    requires { ⌜ at + textRoom ≤ length (now out) ⌝ }
-    ensures { λ r. ⌜ Wrote (now (out .entry)) (now (out .exit)) at (judgeText (judging (now (file .entry)))) r ⌝ }
+    ensures { λ r. ⌜ Put (now (out .entry)) (now (out .exit)) at (judgeText (judging (now (file .entry)))) r ⌝ }
 {
     match routine::judge(file) {
         Verdict::Passes => text::put_bytes(out, at, b"PASSES"),
@@ -56,8 +53,7 @@ fn put_judge(file: &[u8], out: &mut [u8], at: usize) -> usize
 }
 
 fn put_fresh(table: &mut [u16], out: &mut [u8], at: usize) -> usize
-    requires { ⌜ at + textRoom ≤ length (now out) ⌝ }
-    ensures { λ r. ⌜ Wrote (now (out .entry)) (now (out .exit)) at (madeText (making (now (table .entry)))) r × (now (table .exit) ≡ madeTable (now (table .entry))) ⌝ }
+    ensures { λ r. ⌜ Put (now (out .entry)) (now (out .exit)) at (madeText (making (now (table .entry)))) r × (now (table .exit) ≡ madeTable (now (table .entry))) ⌝ }
 {
     match interlock::fresh(table) {
         Made::Fresh => text::put_bytes(out, at, b"FRESH"),
@@ -66,8 +62,7 @@ fn put_fresh(table: &mut [u16], out: &mut [u8], at: usize) -> usize
 }
 
 fn put_turn(file: &[u8], table: &mut [u16], process: usize, out: &mut [u8], at: usize) -> usize
-    requires { ⌜ at + textRoom ≤ length (now out) ⌝ }
-    ensures { λ r. ⌜ Wrote (now (out .entry)) (now (out .exit)) at (turnText (turning (now (file .entry)) (now (table .entry)) process)) r × (now (table .exit) ≡ turnedTable (now (file .entry)) (now (table .entry)) process) ⌝ }
+    ensures { λ r. ⌜ Put (now (out .entry)) (now (out .exit)) at (turnText (turning (now (file .entry)) (now (table .entry)) process)) r × (now (table .exit) ≡ turnedTable (now (file .entry)) (now (table .entry)) process) ⌝ }
 {
     match interlock::turn(file, table, process) {
         Answer::Moved => text::put_bytes(out, at, b"MOVED"),
@@ -77,16 +72,14 @@ fn put_turn(file: &[u8], table: &mut [u16], process: usize, out: &mut [u8], at: 
 }
 
 fn put_number(number: u8, out: &mut [u8], at: usize) -> usize
-    requires { ⌜ at + textRoom ≤ length (now out) ⌝ }
-    ensures { λ r. ⌜ Wrote (now (out .entry)) (now (out .exit)) at (standingText (St.Is number)) r ⌝ }
+    ensures { λ r. ⌜ Put (now (out .entry)) (now (out .exit)) at (standingText (St.Is number)) r ⌝ }
 {
     let next = text::put_bytes(out, at, b"STANDING ");
     text::put_decimal(out, next, number as usize)
 }
 
 fn put_standing(file: &[u8], table: &[u16], out: &mut [u8], at: usize) -> usize
-    requires { ⌜ at + textRoom ≤ length (now out) ⌝ }
-    ensures { λ r. ⌜ Wrote (now (out .entry)) (now (out .exit)) at (standingText (standing (now (file .entry)) (now (table .entry)))) r ⌝ }
+    ensures { λ r. ⌜ Put (now (out .entry)) (now (out .exit)) at (standingText (standing (now (file .entry)) (now (table .entry)))) r ⌝ }
 {
     match interlock::standing(file, table) {
         Standing::Is(number) => put_number(number, out, at),
@@ -95,8 +88,7 @@ fn put_standing(file: &[u8], table: &[u16], out: &mut [u8], at: usize) -> usize
 }
 
 fn put_table(table: &[u16], out: &mut [u8], at: usize) -> usize
-    requires { ⌜ at + 5 * length (now table) ≤ length (now out) ⌝ }
-    ensures { λ r. ⌜ Wrote (now (out .entry)) (now (out .exit)) at (tableText (now (table .entry))) r ⌝ }
+    ensures { λ r. ⌜ Put (now (out .entry)) (now (out .exit)) at (tableText (now (table .entry))) r ⌝ }
 {
     let mut end = at;
     let mut i = 0;

@@ -7,11 +7,12 @@ use native.Mathlib.Decide.{decLe}
 use native.Mathlib.Nat.{add-zero}
 use lib.ListN.{length, getD, set, length-set, List·getD-eq-default}
 use lib.Seq.{set-out}
+use Rattle.routine.specs.Limits.{mostBases, baseWords}
 
 pub record Placed (t : List ℕ) (i r : ℕ) : Type 0 where
   pub there : i < length t → r ≡ i
   pub past : length t ≤ i → length t ≤ r
-  pub near : r ≤ 3 * length t + 48
+  pub near : r ≤ baseWords * (length t + mostBases)
 
 -- stores into the table t left u, which is w, as long as t
 pub record Stores (t u w : List ℕ) : Type 0 where

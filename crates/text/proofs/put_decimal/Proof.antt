@@ -12,9 +12,6 @@ written c =
     let w = c .decimal .ensures .1 in
     w .1 ∙ spells (c .decimal .result) 20 (c .before .before .before .args .n) (few _ _ (omega arith) (w .0)) (w .0)
 
-put-bytes-requires : tie.Need-put-bytes-requires
-put-bytes-requires c κs = rw (written (c .before .before)) (c .before .before .before .before .before .pre)
-
 returns : tie.Need-returns
 returns c = rw (written (c .before .before .before .before .before)) at (c .before .before .put-bytes .ensures)
 
@@ -25,6 +22,6 @@ put-decimal-spec =
     (λ c κs. search needs)
     (λ c. search needs)
     (λ c. search needs)
-    put-bytes-requires
+    (λ c κs. search needs)
     (λ c. search needs)
     returns)

@@ -1,13 +1,8 @@
-use native.Mathlib.Omega.{arith}
-use Rattle.text.specs.Wrote.{then}
-use Rattle.text.specs.Digits.{decimal-long}
+use Rattle.text.specs.Put.{then}
 use Rattle.trialing.specs.Answers.{standingText}
 use borrow.Author.Needs.{needs}
 use Rattle.trialing.proofs.answer.put_number.Statement.{statement}
 use Rattle.trialing.proofs.answer.put_number.Tie as tie
-
-put-decimal-requires : tie.Need-put-decimal-requires
-put-decimal-requires c κs = omega (arith, decimal-long (c .before .before .before .before .before .before .before .args .number))
 
 returns : tie.Need-returns
 unfolding standingText
@@ -19,6 +14,6 @@ put-number-spec =
     (tie.spec
     (λ c. search needs)
     (λ c κs. search needs)
-    put-decimal-requires
+    (λ c κs. search needs)
     (λ c. search needs)
     returns)

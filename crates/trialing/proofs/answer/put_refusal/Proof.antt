@@ -1,20 +1,8 @@
-use native.Mathlib.Omega.{arith}
-use Rattle.text.specs.Wrote.{then}
-use Rattle.text.specs.Digits.{decimal-long}
-use Rattle.text.specs.Lines.{field-most}
+use Rattle.text.specs.Put.{then}
 use Rattle.trialing.specs.Answers.{refusalText}
 use borrow.Author.Needs.{needs}
 use Rattle.trialing.proofs.answer.put_refusal.Statement.{statement}
 use Rattle.trialing.proofs.answer.put_refusal.Tie as tie
-
-put-field-requires : tie.Need-put-field-requires
-put-field-requires c κs = omega (arith, field-most (c .before .before .before .before .before .before .before .before .args .refusal .number))
-
-put-field-requires-2 : tie.Need-put-field-requires-2
-put-field-requires-2 c κs = let r = c .before .before .before .before .before .before .before .before .before .before .before .before .args .refusal in omega (arith, field-most (r .number), field-most (r .block))
-
-put-decimal-requires : tie.Need-put-decimal-requires
-put-decimal-requires c κs = let r = c .before .before .before .before .before .before .before .before .before .before .before .before .before .before .before .before .args .refusal in omega (arith, field-most (r .number), field-most (r .block), decimal-long (r .place))
 
 returns : tie.Need-returns
 unfolding refusalText
@@ -27,8 +15,8 @@ put-refusal-spec =
     (λ c. search needs)
     (λ c κs. search needs)
     (λ c. search needs)
-    put-field-requires
-    put-field-requires-2
-    put-decimal-requires
+    (λ c κs. search needs)
+    (λ c κs. search needs)
+    (λ c κs. search needs)
     (λ c. search needs)
     returns)

@@ -1,17 +1,8 @@
-use native.Mathlib.Omega.{arith}
-use Rattle.text.specs.Wrote.{then}
-use Rattle.text.specs.Digits.{decimal-long}
-use Rattle.text.specs.Lines.{field-most}
+use Rattle.text.specs.Put.{then}
 use Rattle.trialing.specs.Answers.{setText}
 use borrow.Author.Needs.{needs}
 use Rattle.trialing.proofs.answer.put_set.Statement.{statement}
 use Rattle.trialing.proofs.answer.put_set.Tie as tie
-
-put-field-requires : tie.Need-put-field-requires
-put-field-requires c κs = omega (arith, field-most (c .before .before .before .before .before .before .before .args .set .processes))
-
-put-decimal-requires : tie.Need-put-decimal-requires
-put-decimal-requires c κs = let s = c .before .before .before .before .before .before .before .before .before .before .before .args .set in omega (arith, field-most (s .processes), decimal-long (s .bases))
 
 returns : tie.Need-returns
 unfolding setText
@@ -23,7 +14,7 @@ put-set-spec =
     (tie.spec
     (λ c. search needs)
     (λ c κs. search needs)
-    put-field-requires
-    put-decimal-requires
+    (λ c κs. search needs)
+    (λ c κs. search needs)
     (λ c. search needs)
     returns)
