@@ -82,7 +82,7 @@ fn readers(n: usize, all: Holders, b: usize) -> u16
     sum
 }
 
-// Base b, 1 to B, in a file of n processes.
+// Whether the words of base b, 1 to B, are consistent in a file of n processes.
 fn base_fits(n: usize, table: &[u16], all: Holders, b: usize) -> bool
     requires { ⌜ n ≤ mostProcesses ⌝ }
     ensures { λ r. ⌜ r ≡ baseFitsIn n (now (table .entry)) all b ⌝ }
@@ -105,7 +105,7 @@ fn base_fits(n: usize, table: &[u16], all: Holders, b: usize) -> bool
     count == 0
 }
 
-// Base b, above B.
+// Whether the words of base b, above B, are zero.
 fn base_blank(table: &[u16], b: usize) -> bool
     ensures { λ r. ⌜ r ≡ baseZero (now (table .entry)) b ⌝ }
 {
@@ -118,7 +118,7 @@ fn base_blank(table: &[u16], b: usize) -> bool
     count(table, b) == 0
 }
 
-// Base b, 1 to 16, in a file of n processes that share so many bases.
+// Whether the words of base b, 1 to 16, are consistent in a file of n processes that share so many bases.
 fn base_good(n: usize, bases: usize, table: &[u16], all: Holders, b: usize) -> bool
     requires { ⌜ n ≤ mostProcesses ⌝ }
     ensures { λ r. ⌜ r ≡ baseGoodIn n bases (now (table .entry)) all b ⌝ }
@@ -129,7 +129,7 @@ fn base_good(n: usize, bases: usize, table: &[u16], all: Holders, b: usize) -> b
     base_blank(table, b)
 }
 
-// Every base, where the processes hold what the rows say.
+// Whether those of every base are, where the processes hold what the rows say.
 pub(crate) fn bases_good(n: usize, bases: usize, table: &[u16], all: Holders) -> bool
     requires { ⌜ n ≤ mostProcesses ⌝ }
     ensures { λ r. ⌜ r ≡ basesGoodIn n bases (now (table .entry)) all ⌝ }

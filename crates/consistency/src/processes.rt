@@ -31,6 +31,7 @@ pub(crate) struct Fitted {
     pub(crate) row: Row,
 }
 
+// No row is worked out: the words do not fit, or the process is none of the file's.
 fn holding_nothing(fits: bool) -> Fitted
     ensures { λ r. ⌜ r .fits ≡ fits ⌝ }
 {
@@ -97,7 +98,7 @@ fn held_now(row: Row, phase: usize, call: Call) -> Row
     row
 }
 
-// Process p, 1 to N.
+// Process p, 1 to N: whether its words are consistent, and what it holds.
 fn process_fits(file: &[u8], table: &[u16], p: usize) -> Fitted
     requires { ⌜ (WellFormed (routines (now file))) × (1 ≤ p) × (p ≤ routines (now file) .N) ⌝ }
     ensures judged { λ r. ⌜ r .fits ≡ processFits (routines (now (file .entry))) (now (table .entry)) p ⌝ }
@@ -129,7 +130,7 @@ fn process_fits(file: &[u8], table: &[u16], p: usize) -> Fitted
     }
 }
 
-// Process p, above N.
+// Whether the words of process p, above N, are zero.
 fn process_blank(table: &[u16], p: usize) -> bool
     ensures { λ r. ⌜ r ≡ processZero (now (table .entry)) p ⌝ }
 {
@@ -145,7 +146,7 @@ fn process_blank(table: &[u16], p: usize) -> bool
     entry(table, p) == 0
 }
 
-// Process p, 1 to 8, in a file of n.
+// Process p, 1 to 8, in a file of n: whether its words are consistent, and what it holds.
 pub(crate) fn process_good(file: &[u8], n: usize, table: &[u16], p: usize) -> Fitted
     requires { ⌜ (WellFormed (routines (now file))) × (n ≡ routines (now file) .N) × (1 ≤ p) ⌝ }
     ensures judged { λ r. ⌜ r .fits ≡ processGood (routines (now (file .entry))) (now (table .entry)) p ⌝ }

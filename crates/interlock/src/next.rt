@@ -27,7 +27,7 @@ fn go_on(phase: u16, w: Words) -> Words
     x
 }
 
-// A try, without interruption.
+// Whether a try succeeds.
 fn succeeds(kind: usize, w: Words) -> bool
     ensures { λ r. ⌜ r ≡ succeeds kind w ⌝ }
 {

@@ -21,6 +21,7 @@ pub(crate) fn step(file: &[u8], n: usize, table: &mut [u16], p: usize) -> bool
 {
     let k = call(table, p);
     let now = call_at(file, p, k);
+    // A finished process has no base to look at.
     if now.kind == 0 {
         return false;
     }

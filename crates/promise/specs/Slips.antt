@@ -112,7 +112,7 @@ but f Nx.Idle = Nx.Idle
 unfoldable pub leavesSwitch : Rule
 leavesSwitch p kind old w = cond (eqb kind unlock) (but (λ x. withBase (x .lock) (w .nomore) (x .count) x) (next p kind old w)) (next p kind old w)
 
--- 1 takes the base; 3 misses it, enlists and misses again; 1 unlocks and notifies; 3 sets the switch, wakes, takes the base, unlocks it and leaves the switch on; 2 waits to read a free base
+-- 1 takes the base; 2 misses it, enlists and misses again; 1 unlocks and notifies; 2 sets the switch, wakes, takes the base, unlocks it and leaves the switch on; 3 waits to read a free base
 unfoldable pub switchLeft : Slip
 switchLeft = record {
   judge = judging;

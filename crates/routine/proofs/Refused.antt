@@ -13,7 +13,7 @@ use Rattle.routine.specs.declared.refusal.Refusal.{Refusal}
 use Rattle.routine.specs.declared.set.Set.{Set}
 use Rattle.routine.specs.declared.Reading.the-variants.{Good, Refused}
 use Rattle.routine.specs.Limits.{mostProcesses, blockBytes, setOf}
-use Rattle.routine.specs.Test.{within, by-test, and-left, and-right, both, within-is, is-within}
+use Rattle.routine.specs.Test.{within, by-test, and-left, and-right, within-is}
 use Rattle.routine.specs.First.{first-low, first-before, first-fails, first-is}
 use Rattle.routine.specs.Refusal.{refusalOf, none, given, firstDue}
 use Rattle.routine.specs.Routines.{routines}
@@ -26,10 +26,6 @@ unfolding lengthGood
 length-means l e =
     let w = within-is 1 (mostProcesses * blockBytes) l (and-left _ _ e) in
     (w .0, w .1, eqb-true _ _ (and-right (within 1 (mostProcesses * blockBytes) l) _ e))
-
-pub means-length : (l : ℕ) → 1 ≤ l → l ≤ mostProcesses * blockBytes → l % blockBytes ≡ 0 → lengthGood l ≡ true
-unfolding lengthGood
-means-length l lo hi m = both (is-within 1 (mostProcesses * blockBytes) l lo hi) (eq-eqb _ _ m)
 
 -- ---- the first bad block
 

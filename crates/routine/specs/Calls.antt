@@ -18,7 +18,7 @@ callOf kind base = record { kind = kind; base = base }
 unfoldable pub callsIn : List ℕ → ℕ → ℕ
 callsIn f p = cond (within 1 (routines f .N) p) (routines f .calls p) 0
 
--- the call at which process p stands when it has completed k calls; kind 0 and base 0 where there is none
+-- the call at which process p stands when it has completed k calls; kind 0 and base 0 where there is none, or past the 32nd
 unfoldable pub callAt : List ℕ → ℕ → ℕ → Call
 callAt f p k = cond (and (ltb k (callsIn f p)) (ltb k mostCalls)) (callOf (routines f .kind p k) (routines f .base p k)) (callOf 0 0)
 

@@ -103,9 +103,6 @@ module _ (good : ℕ → Bool) where
   unfolding every
   every-not i e l t = let ne : firstIn good i e ≡ e → ⊥ = eqb-false _ _ t in let hi = first-high i e l in omega arith
 
-  pub not-every : (i e j : ℕ) → i ≤ j → j < e → good j ≡ false → every good i e ≡ false
-  not-every i e j l h f = by-test (every good i e) (λ t. absurd (clash (every-at i e t j l h) f)) (λ t. t)
-
   -- a walk that started at i and has come to j: it stops at j, or is past the last number
   pub walk-stops : (i j e : ℕ) → firstIn good j e ≡ firstIn good i e → j < e → good j ≡ false → every good i e ≡ false
   unfolding every

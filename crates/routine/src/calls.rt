@@ -32,7 +32,7 @@ pub fn calls_in(file: &[u8], p: usize) -> usize
     wide(file[Set::BLOCK * (p - 1) + 2])
 }
 
-// The call at which process p stands when it has completed k calls; kind 0 and base 0 where there is none.
+// The call at which process p stands when it has completed k calls; kind 0 and base 0 where there is none, or past the 32nd.
 pub fn call_at(file: &[u8], p: usize, k: usize) -> Call
     ensures { λ r. ⌜ r ≡ callAt (now (file .entry)) p k ⌝ }
 {

@@ -7,7 +7,7 @@ pub struct Set {
     pub bases: usize,
 }
 
-// The limits of a set, each a number of the constant of the same name.
+// The limits of a set as a value, each field the constant of the same name.
 pub struct Limits {
     pub processes: usize,
     pub bases: usize,

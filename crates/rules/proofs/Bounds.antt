@@ -1,17 +1,15 @@
--- What code and proofs need of a consistent table: every word is small, and an unfinished process stands at a call.
+-- Bounds on the words of a consistent table, and what a finished process and a reader show in them.
 use mathlib.Core.Path.{_≡_}
-use mathlib.Core.Logic.{_≢_, _↔_}
 use mathlib.Core.List.{List}
-use Prim.Native.Nat.{ℕ, _≤_, _<_}
+use Prim.Native.Nat.{ℕ, _≤_}
 use native.Mathlib.Omega.{arith}
 use native.Mathlib.Decide.{decLe}
 use Rattle.routine.specs.Limits.{mostProcesses, mostCalls}
-use Rattle.routine.specs.Routines.{Routines, kindNow, reads}
+use Rattle.routine.specs.Routines.{Routines, reads}
 use Rattle.routine.specs.Rules.{WellFormed}
-use Rattle.rules.specs.Table.{lock, nomore, count, call, phase, wake, entry}
+use Rattle.rules.specs.Table.{count, call, phase, wake, entry}
 use Rattle.rules.specs.Consistent.{held, oneIfReads, readers}
 use Rattle.routine.proofs.Sums.{sum-low, term-le}
-use Rattle.routine.proofs.Holding.{at-call, CallNow, call-now}
 use Rattle.rules.proofs.Holding.{one-small, one-reads}
 use Rattle.rules.proofs.Sentences.{Marks, Consistent, ProcessConsistent}
 
@@ -23,12 +21,6 @@ marks-small ph w e m = elim (decLe ph 1) [
 
 module _ (S : Routines) (g : WellFormed S) (t : List ℕ) (o : Consistent S t) where
   module _ (b : ℕ) (b-low : 1 ≤ b) (b-high : b ≤ S .B) where
-    pub lock-small : lock t b ≤ mostProcesses
-    lock-small = omega (arith, o .base b b-low b-high .lock-low, g .few-processes)
-
-    pub nomore-small : nomore t b ≤ 1
-    nomore-small = o .base b b-low b-high .nomore-low
-
     -- at most N readers are counted
     pub count-small : count t b ≤ mostProcesses
     unfolding readers
@@ -46,28 +38,9 @@ module _ (S : Routines) (g : WellFormed S) (t : List ℕ) (o : Consistent S t) w
     pub call-small : call t p ≤ mostCalls
     call-small = omega (arith, mine .call-low, g .few-calls p p-low p-high)
 
-    pub phase-small : phase t p ≤ 7
-    phase-small = mine .phase-low
-
     pub wake-small : wake t p ≤ 1
     wake-small = marks-small (phase t p) (wake t p) (entry t p) (mine .marks) .0
 
-    pub entry-small : entry t p ≤ 1
-    entry-small = marks-small (phase t p) (wake t p) (entry t p) (mine .marks) .1
-
-    pub unfinished-call : call t p ≢ S .calls p → call t p < S .calls p
-    unfinished-call n = omega (arith, mine .call-low)
-
-    -- an unfinished process stands at a call
-    pub call-there : call t p < S .calls p → CallNow S p (call t p)
-    call-there h = call-now S g p (call t p) p-low p-high h
-
-    pub kind-there : (kindNow S p (call t p) ≢ 0) ↔ (call t p < S .calls p)
-    kind-there = (at-call S p (call t p), λ h. let c = call-there h in omega arith)
-
-    -- a finished process stands in phase 0, so in another phase a process is at a call
+    -- a finished process stands in phase 0
     pub finished-phase : S .calls p ≤ call t p → phase t p ≡ 0
     finished-phase h = mine .end-phase (omega (arith, mine .call-low))
-
-    pub phase-call : phase t p ≢ 0 → call t p < S .calls p
-    phase-call n = elim (decLe (S .calls p) (call t p)) [ yes h ↦ absurd (n (finished-phase h)) | no h ↦ omega arith ]

@@ -60,7 +60,7 @@ processZero t p = and (eqb (call t p) 0) (and (eqb (phase t p) 0) (and (eqb (wak
 
 -- ---- a base
 
--- p is the process that LOCK of b names
+-- p modifies b, so that LOCK of b has to name it
 unfoldable pub owns : Routines → List ℕ → ℕ → ℕ → Bool
 owns S t b p = eqb (held S t p b) modifies
 

@@ -1,5 +1,5 @@
--- The state table: 80 words, read by named accessors and written by three writers, with the laws of the one over the other.
--- Only this file knows where a word stands.
+-- The state table: 80 words, read by named accessors and written by named writers, with the laws of the one over the other.
+-- Of the definitions only this file knows where a word stands, and of the code only `words`.
 use mathlib.Core.Path.{_≡_, _∙_}
 use mathlib.Core.Logic.{_≢_}
 use mathlib.Core.List.{List}

@@ -28,10 +28,6 @@ then {a} {b} {c} {xs} {ys} {at} {m} {n} v w = record {
   size = w .size ∙ v .size;
 }
 
--- nothing
-pub same : (a : List ℕ) (at : ℕ) → Wrote a a at [] at
-same a at = record { is = refl; ends = omega arith; size = refl }
-
 -- what was put at the start of a buffer that has room stands there
 pub at-start : (old bytes : List ℕ) → length bytes ≤ length old → take (length bytes) (sets old 0 bytes) ≡ bytes
 at-start old bytes h = let r : 0 + length bytes ≤ length old = omega arith in rw (sets-eq bytes old 0 r) (take-append-seam bytes (drop (0 + length bytes) old))

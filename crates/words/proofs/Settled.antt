@@ -2,6 +2,7 @@
 use mathlib.Core.Path.{_≡_, sym, _∙_}
 use contract.Lifetimes.{Lfts}
 use denote.Ref.{now}
+use Rattle.words.proofs.wide.Reads as wide-reads
 use Rattle.words.proofs.lock.Reads as lock-reads
 use Rattle.words.proofs.nomore.Reads as nomore-reads
 use Rattle.words.proofs.count.Reads as count-reads
@@ -12,6 +13,9 @@ use Rattle.words.proofs.entry.Reads as entry-reads
 use Rattle.words.proofs.words_at.Reads as words-at-reads
 use Rattle.words.proofs.put_words.Reads as put-words-reads
 use Rattle.words.proofs.put_marks.Reads as put-marks-reads
+
+pub wide-settled : (κs : Lfts 0) (a : _) (r s : _) (x y : _) → wide-reads.Post κs a r x → wide-reads.Post κs a s y → r ≡ s
+wide-settled κs a r s x y p q = p .0 ∙ sym (q .0)
 
 pub lock-settled : (κs : Lfts 1) (a : _) (r s : _) (x y : _) → lock-reads.Post κs a r x → lock-reads.Post κs a s y → r ≡ s
 lock-settled κs a r s x y p q = p ∙ sym q

@@ -14,6 +14,7 @@ fn base_at(table: &[u16], b: usize) -> usize
     if b == 0 {
         return 0;
     }
+    // The product is worked out only where it stays small.
     if table.len() < b {
         return table.len();
     }
@@ -27,6 +28,7 @@ fn process_at(table: &[u16], p: usize) -> usize
     if p == 0 {
         return Set::BASE_WORDS * Set::BASES;
     }
+    // The product is worked out only where it stays small.
     if table.len() / Set::PROCESS_WORDS < p {
         return table.len();
     }
