@@ -47,7 +47,8 @@ fn nothing_held(row: Row) -> bool
 {
     let mut c = 1;
     while c <= Set::BASES {
-        if mark_in(row, c) != FREE {
+        let held = mark_in(row, c);
+        if held != FREE {
             return false;
         }
         c += 1;

@@ -12,6 +12,7 @@ use Rattle.routine.specs.Limits.{mostBases, baseWords}
 pub record Placed (t : List ℕ) (i r : ℕ) : Type 0 where
   pub there : i < length t → r ≡ i
   pub past : length t ≤ i → length t ≤ r
+  -- so that a few places more still make a number of the machine
   pub near : r ≤ baseWords * (length t + mostBases)
 
 -- stores into the table t left u, which is w, as long as t
