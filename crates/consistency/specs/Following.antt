@@ -1,6 +1,6 @@
 -- The first calls of a process, followed from nothing held, for any bytes and any process and number of calls.
 use mathlib.Core.Path.{_≡_}
-use mathlib.Core.Bool.{Bool, not}
+use mathlib.Core.Bool.{Bool, not, cond, _||_}
 use mathlib.Core.List.{List}
 use Prim.Native.Nat.{ℕ, zero, suc}
 use lib.Dec.{eqb}
@@ -30,6 +30,10 @@ fineAfter f p k = fineIn (rowAfter f p k) (callAt f p k)
 -- whether the first k calls are all there and fine in their turn, and the marks up to the first that is not
 unfoldable pub following : List ℕ → ℕ → ℕ → Followed
 following f p k = record { fine = every (fineAfter f p) 0 k; row = rowAfter f p (firstIn (fineAfter f p) 0 k) }
+
+-- the marks now, of a process in this phase of a call: in phases 3 and 6 as after the call
+abbrev pub rowNow : List ℕ → ℕ → Call → List ℕ
+rowNow row ph c = cond (eqb ph 3 || eqb ph 6) (markedRow row (c .kind) (c .base)) row
 
 -- ---- laws
 

@@ -1,12 +1,12 @@
 ghost use mathlib.Core.Path.{_≡_};
-ghost use mathlib.Core.Bool.{true, cond, _||_};
+ghost use mathlib.Core.Bool.{true};
 ghost use Prim.Native.Nat.{_≤_};
-ghost use lib.Dec.{eqb};
 ghost use Rattle.routine.specs.Routines.{routines};
 ghost use Rattle.routine.specs.Rules.{WellFormed};
-ghost use Rattle.routine.specs.Rows.{RowOf, markedRow};
+ghost use Rattle.routine.specs.Rows.{RowOf};
 ghost use Rattle.rules.specs.Table.{call, phase};
 ghost use Rattle.rules.specs.Consistent.{effective, callFits, standsWell, processZero, processFits, processGood};
+ghost use Rattle.consistency.specs.Following.{rowNow};
 use crate::held::follow;
 use crate::marks::marks_allowed;
 use routine::Set;
@@ -87,7 +87,7 @@ fn stands_well(phase: usize, kind: usize, old: Mark) -> bool
 
 // In phases 3 and 6 what is held is as after the current call.
 fn held_now(row: Row, phase: usize, call: Call) -> Row
-    ensures { λ r. ⌜ r ≡ cond (eqb phase 3 || eqb phase 6) (markedRow row (call .kind) (call .base)) row ⌝ }
+    ensures { λ r. ⌜ r ≡ rowNow row phase call ⌝ }
 {
     if phase == 3 {
         return marked(row, call.kind, call.base);

@@ -1,9 +1,8 @@
 ghost use mathlib.Core.Path.{_≡_};
-ghost use mathlib.Core.Bool.{cond};
 ghost use Prim.Native.Nat.{_≤_};
-ghost use lib.Dec.{eqb};
 ghost use Rattle.routine.specs.Limits.{mostProcesses, mostCalls};
-ghost use Rattle.rules.specs.Turn.{succeeds, taken, completed, toPhase, take, release, lessen, begin, start, enlist, retry, delist, switch, await, next};
+ghost use Rattle.rules.specs.Turn.{succeeds, taken, take, release, lessen, begin, start, enlist, retry, delist, switch, await, next};
+ghost use Rattle.interlock.specs.Going.{goOn};
 use routine::calls::Call;
 use routine::holds::Mark;
 use routine::holds::fine;
@@ -16,7 +15,7 @@ const COMPLETE: u16 = 0;
 // The call goes on in this phase, or is complete.
 fn go_on(phase: u16, w: Words) -> Words
     requires { ⌜ w .call ≤ mostCalls ⌝ }
-    ensures { λ r. ⌜ r ≡ cond (eqb phase 0) (completed w) (toPhase phase w) ⌝ }
+    ensures { λ r. ⌜ r ≡ goOn phase w ⌝ }
 {
     let mut x = w;
     x.phase = phase;

@@ -1,11 +1,9 @@
 ghost use mathlib.Core.Path.{_≡_};
-ghost use mathlib.Core.Bool.{cond};
 ghost use Prim.Native.Nat.{_≤_};
-ghost use lib.Dec.{eqb};
 ghost use Rattle.routine.specs.Routines.{routines};
 ghost use Rattle.routine.specs.Rules.{WellFormed};
-ghost use Rattle.rules.specs.Table.{putMarks};
-ghost use Rattle.rules.specs.Turn.{waits, notified};
+ghost use Rattle.rules.specs.Turn.{waits};
+ghost use Rattle.interlock.specs.Waking.{wokenUp, notifiedIn};
 use routine::calls::call_at;
 use words::call;
 use words::entry;
@@ -26,7 +24,7 @@ fn waits(file: &[u8], table: &[u16], b: usize, q: usize) -> bool
 // Process q is taken off the waiting list for base b, and gets its wakeup, where it stands on it.
 fn wake_up(file: &[u8], table: &mut [u16], b: usize, q: usize)
     requires { ⌜ (WellFormed (routines (now file))) × (1 ≤ q) × (q ≤ routines (now file) .N) ⌝ }
-    ensures { λ r. ⌜ now (table .exit) ≡ cond (waits (routines (now (file .entry))) (now (table .entry)) b q) (putMarks (now (table .entry)) q 1 0) (now (table .entry)) ⌝ }
+    ensures { λ r. ⌜ now (table .exit) ≡ wokenUp (routines (now (file .entry))) (now (table .entry)) b q ⌝ }
 {
     if waits(file, table, b, q) {
         put_marks(table, q, 1, 0);
@@ -36,7 +34,7 @@ fn wake_up(file: &[u8], table: &mut [u16], b: usize, q: usize)
 // In phase 6, everyone who stands on the waiting list for base b is woken; in another nobody.
 pub(crate) fn notify(file: &[u8], n: usize, table: &mut [u16], b: usize, phase: u16)
     requires { ⌜ (WellFormed (routines (now file))) × (n ≡ routines (now file) .N) ⌝ }
-    ensures { λ r. ⌜ now (table .exit) ≡ cond (eqb phase 6) (notified (routines (now (file .entry))) b (now (table .entry)) n) (now (table .entry)) ⌝ }
+    ensures { λ r. ⌜ now (table .exit) ≡ notifiedIn (routines (now (file .entry))) phase (now (table .entry)) b n ⌝ }
 {
     if phase != 6 {
         return;

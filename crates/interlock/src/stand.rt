@@ -1,11 +1,9 @@
 ghost use mathlib.Core.Path.{_≡_};
 ghost use Prim.Native.Nat.{_+_, _≤_};
-ghost use lib.Dec.{leb};
 ghost use Rattle.routine.specs.Routines.{routines};
-ghost use Rattle.routine.specs.First.{every};
 ghost use Rattle.rules.specs.Ready.{Ready};
 ghost use Rattle.rules.specs.Standing.{standingOf};
-ghost use Rattle.interlock.specs.Doing.{doing};
+ghost use Rattle.interlock.specs.Doing.{doing, atMost};
 use routine::calls::calls_in;
 use words::call;
 use words::phase;
@@ -44,7 +42,7 @@ fn doing(file: &[u8], table: &[u16], p: usize) -> u8
 // Whether no process does more than this.
 fn at_most(file: &[u8], n: usize, table: &[u16], most: u8) -> bool
     requires { ⌜ (Ready (now file) (now table)) × (n ≡ routines (now file) .N) ⌝ }
-    ensures { λ r. ⌜ r ≡ every (λ p. leb (doing (routines (now (file .entry))) (now (table .entry)) p) most) 1 (routines (now (file .entry)) .N + 1) ⌝ }
+    ensures { λ r. ⌜ r ≡ atMost (routines (now (file .entry))) (now (table .entry)) most ⌝ }
 {
     let mut p = 1;
     while p <= n {
