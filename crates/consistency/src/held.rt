@@ -6,7 +6,7 @@ use routine::calls::{Call, call_at};
 use routine::holds::{FREE, Row, fine, mark_in, marked};
 
 // The completed calls of a process, followed from nothing held: whether they are there and none was a logic error in its turn, and what they leave held, up to the first that fails.
-#[derive(Drop)]
+#[derive(Clone, Copy)]
 pub struct Followed {
     pub fine: bool,
     pub row: Row,

@@ -1,4 +1,6 @@
 // When file, table and process go together: the checks that come before a turn and a standing.
+#![tactic(auto)]
+
 ghost use Rattle.std.specs.Prelude.{◌≡◌};
 ghost use Rattle.routine.specs.Limits.{set_of};
 ghost use Rattle.routine.specs.Routines.{routines};

@@ -15,7 +15,7 @@ use routine::range::within;
 use words::{call, entry, phase, wake};
 
 // Whether the words of a process are consistent, and then what it holds.
-#[derive(Drop)]
+#[derive(Clone, Copy)]
 pub(crate) struct Fitted {
     pub(crate) fits: bool,
     pub(crate) row: Row,

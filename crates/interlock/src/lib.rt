@@ -1,4 +1,6 @@
 // The machine: the fresh table, one turn of one process, and the standing of a table. Each call takes every input.
+#![tactic(auto)]
+
 ghost use Rattle.std.specs.Prelude.{◌≡◌, length};
 ghost use Rattle.rules.specs.Answers.{standing, TurnDone, TableMade};
 

@@ -1,4 +1,6 @@
 // Plays `set.bin` with `turns.bin`.
+#![tactic(auto)]
+
 fn main() {
     playing::run();
 }

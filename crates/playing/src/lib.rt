@@ -1,4 +1,6 @@
 // The playing program: what it writes is a function of the bytes of `set.bin` and of `turns.bin`.
+#![tactic(auto)]
+
 ghost use Rattle.io.specs.Counts.{IsPrefixLen};
 
 mod line;

@@ -10,7 +10,7 @@ use rules::{Answer, Standing};
 use words::{call, phase};
 
 // The place after a turn's line, and whether the play goes on.
-#[derive(Drop)]
+#[derive(Clone, Copy)]
 pub(crate) struct Step {
     pub(crate) at: usize,
     pub(crate) on: bool,

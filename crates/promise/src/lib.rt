@@ -1,1 +1,2 @@
 // What holds of every play: theorems only, and no code.
+#![tactic(auto)]

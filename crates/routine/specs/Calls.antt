@@ -1,5 +1,5 @@
 -- One call of a file, for any bytes and any process and place.
-use Rattle.std.specs.Prelude.{◌≡◌, cond, List, ℕ, ◌-◌, ◌≤◌, ◌<◌, ltb}
+use Rattle.std.specs.Prelude.{◌≡◌, cond, List, ℕ, ◌≤◌, ◌<◌, ltb}
 use Rattle.std.proofs.Common.{arith, lt-ltb, ltb-true}
 use Rattle.routine.specs.declared.calls.Call.{Call}
 use Rattle.routine.specs.Test.{and, within, by_test, within_is, is_within}

@@ -5,7 +5,7 @@ use crate::block::wide;
 use crate::set::Set;
 
 // A call: its kind (1 modlock, 2 readlock, 3 unlock, 4 decrease) and its base, from 1.
-#[derive(Drop)]
+#[derive(Clone, Copy)]
 pub struct Call {
     pub kind: usize,
     pub base: usize,

@@ -1,4 +1,6 @@
 // The routine file: what it is, which file is refused and where, and which file passes.
+#![tactic(auto)]
+
 ghost use Rattle.std.specs.Prelude.{◌≡◌};
 ghost use Rattle.routine.specs.Reading.{reading};
 ghost use Rattle.routine.specs.Judging.{judging};
@@ -18,14 +20,14 @@ pub use refusal::Refusal;
 pub use set::Set;
 
 // What the reader answers: what the file is about, or why it is refused.
-#[derive(Drop)]
+#[derive(Clone, Copy)]
 pub enum Reading {
     Good(Set),
     Refused(Refusal),
 }
 
 // What the judge answers.
-#[derive(Drop)]
+#[derive(Clone, Copy)]
 pub enum Verdict {
     Passes,
     Refused(Refusal),

@@ -2,7 +2,7 @@ ghost use Rattle.std.specs.Prelude.{◌≡◌};
 ghost use Rattle.routine.specs.Refusal.{refusal_of, none};
 
 // A refusal by its number, with the block and the call place that it shows. Number 0: nothing is refused.
-#[derive(Drop)]
+#[derive(Clone, Copy)]
 pub struct Refusal {
     pub number: u8,
     pub block: usize,

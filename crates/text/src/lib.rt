@@ -1,4 +1,6 @@
 // Text in a lent buffer: each function puts its bytes from a place on, as far as there is room, and answers the place after them.
+#![tactic(auto)]
+
 ghost use Rattle.std.specs.Prelude.{◌∷◌, [], ◌+◌, ◌<◌};
 ghost use Rattle.text.specs.Put.{Put};
 ghost use Rattle.text.specs.Digits.{decimal, hexadecimal};

@@ -8,7 +8,7 @@ use crate::trial::{Next, Trial, load, trial_at};
 use libc::STDOUT_FILENO;
 
 // How far the input is answered, where the lines of it end, and whether what follows is no trial.
-#[derive(Drop)]
+#[derive(Clone, Copy)]
 struct Answered {
     at: usize,
     end: usize,
@@ -16,7 +16,7 @@ struct Answered {
 }
 
 // Whether the input goes on, and how many bytes at the start of the window are still to be answered.
-#[derive(Drop)]
+#[derive(Clone, Copy)]
 struct Window {
     left: usize,
     on: bool,

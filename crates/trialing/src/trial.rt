@@ -2,7 +2,7 @@ ghost use Rattle.std.specs.Prelude.{◌≡◌, ◌+◌, ◌*◌, ◌<◌, ◌≤
 ghost use Rattle.trialing.specs.Trial.{number, long_number, trial_at, file_at, words_at, whole_at, loaded, most_file, most_words};
 
 // A whole trial: its op, how many bytes of file and how many words it has, and its process number.
-#[derive(Drop)]
+#[derive(Clone, Copy)]
 pub struct Trial {
     pub op: u8,
     pub file: usize,
@@ -10,7 +10,7 @@ pub struct Trial {
     pub process: usize,
 }
 
-#[derive(Drop)]
+#[derive(Clone, Copy)]
 pub enum Next {
     Whole(Trial),
     // The input ends in it, or before it.

@@ -1,4 +1,6 @@
 // Answers the trials of `trials.bin`.
+#![tactic(auto)]
+
 fn main() {
     trialing::run();
 }

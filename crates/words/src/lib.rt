@@ -1,4 +1,6 @@
 // The named words of a state table, for a table of any length and any base and process: a word past the table's end reads as 0 and is not written.
+#![tactic(auto)]
+
 ghost use Rattle.std.specs.Prelude.{◌≡◌, ◌<◌, get_or, set};
 ghost use Rattle.rules.specs.Table.{lock, nomore, count, call, phase, wake, entry, words_at, put_marks, put_words, base_at, process_at};
 ghost use Rattle.words.specs.Placed.{Placed};

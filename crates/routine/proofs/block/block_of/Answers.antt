@@ -6,27 +6,13 @@ use lib.ListN.{length-drop}
 use lib.Seq.{length-take-le}
 use Rattle.routine.specs.Limits.{block_bytes}
 use Rattle.routine.specs.Block.{block}
-use borrow.Author.Rules.{rules}
-use Rattle.routine.proofs.block.block_of.Statement.{statement}
-use Rattle.routine.proofs.block.block_of.Tie as tie
+use Rattle.routine.proofs.block.block_of.Goals as goal
 
-returns : tie.Need-returns
+pub returns : goal.returns
 unfolding block
 returns c =
-    let f = c.before.args.file.now in
-    let at = block_bytes * (c.before.args.p - 1) in
+    let f = c.args.file.now in
+    let at = block_bytes * (c.args.p - 1) in
     let e : at + block_bytes - at ≡ block_bytes = omega arith in
     let l : block_bytes ≤ length (drop at f) = simp length-drop (omega arith) in
     rw e (refl, length-take-le block_bytes (drop at f) l)
-
-pub block-of-spec : {M : Type 1} → statement M
-block-of-spec =
-    tie.close
-    (tie.spec
-    (λ c. search rules)
-    (λ c. search rules)
-    (λ c. search rules)
-    (λ c. search rules)
-    (λ c. search rules)
-    (λ c. search rules)
-    returns)
