@@ -2,7 +2,7 @@ use native.Mathlib.Omega.{arith}
 use mathlib.Core.Path.{◌≡◌, sym, ◌∙◌}
 use mathlib.Core.Bool.{false, not}
 use mathlib.Core.List.{List}
-use Prim.Native.Nat.{ℕ, ◌+◌, ◌-◌, ◌≤◌}
+use Prim.Native.Nat.{ℕ, ◌+◌, ◌≤◌}
 use lib.Dec.{eqb, leb}
 use borrow.Author.Tests.{eqb-true, eqb-false}
 use Rattle.routine.specs.Test.{by_test}
@@ -16,9 +16,8 @@ use Rattle.rules.specs.Standing.{finished, all_finished, nobody_moves, standing_
 use Rattle.rules.proofs.Sentences.{Consistent, consistent_means}
 use Rattle.rules.proofs.Moves.{finished_idle, idle_turn, stopped_idle, waiting_moves, other_moves}
 use Rattle.interlock.specs.Doing.{doing}
-use borrow.Author.Rules.{rules}
-use Rattle.interlock.proofs.stand.stand.Statement.{statement}
-use Rattle.interlock.proofs.stand.stand.Tie as tie
+use Rattle.interlock.proofs.stand.stand.Goals as goal
+use Rattle.interlock.proofs.stand.stand.Goals.{Else-at_most}
 
 -- no more than finished: finished
 none_more : (S : Routines) (t : List ℕ) (p : ℕ) → leb (doing S t p) 0 ≡ finished S t p
@@ -49,27 +48,17 @@ module _ (f t : List ℕ) where
   unfolding nobody_moves
   nobody_moves_lem r = every_same _ _ 1 ((routines f).N + 1) (omega arith) (λ p lo hi. none_moves (routines f) r.file t (consistent_means _ _ r.file r.consistency) p lo (omega arith))
 
-returns : tie.Need-returns
+pub returns-then-at_most : goal.returns-then-at_most
 unfolding standing_of
-returns c = simp (sym (all_finished_lem _ _) ∙ sym c.before.at_most.ensures ∙ c.if1.true)
+returns-then-at_most c = simp (sym (all_finished_lem _ _) ∙ sym c.at_most.ensures ∙ c.if-at_most.true)
 
-unfinished : (c : tie.Else1) → all_finished (routines c.before.before.before.before.args.file.now) c.before.before.before.before.args.table.now ≡ false
-unfinished c = sym (all_finished_lem _ _) ∙ sym c.before.at_most.ensures ∙ c.if1.false
+unfinished : (c : Else-at_most) → all_finished (routines c.args.file.now) c.args.table.now ≡ false
+unfinished c = sym (all_finished_lem _ _) ∙ sym c.at_most.ensures ∙ c.if-at_most.false
 
-returns-2 : tie.Need-returns-2
+pub returns-then-at_most-2 : goal.returns-then-at_most-2
 unfolding standing_of
-returns-2 c = simp (unfinished c.before.before, sym (nobody_moves_lem _ _ c.before.before.before.before.before.before.requires.0) ∙ sym c.before.at-most2.ensures ∙ c.if2.true)
+returns-then-at_most-2 c = simp (unfinished (goal.at.returns-then-at_most-2 c).Else-at_most, sym (nobody_moves_lem _ _ c.requires.0) ∙ sym c.at_most-2.ensures ∙ c.if-at_most-2.true)
 
-returns-3 : tie.Need-returns-3
+pub returns : goal.returns
 unfolding standing_of
-returns-3 c = simp (unfinished c.before.before, sym (nobody_moves_lem _ _ c.before.before.before.before.before.before.requires.0) ∙ sym c.before.at-most2.ensures ∙ c.if2.false)
-
-pub stand-spec : {M : Type 1} → statement M
-stand-spec =
-    tie.close
-    (tie.spec
-    (λ c κs. search rules)
-    returns
-    (λ c κs. search rules)
-    returns-2
-    returns-3)
+returns c = simp (unfinished (goal.at.returns c).Else-at_most, sym (nobody_moves_lem _ _ c.requires.0) ∙ sym c.at_most-2.ensures ∙ c.if-at_most-2.false)
