@@ -1,6 +1,6 @@
 // Plays `set.bin` with `turns.bin`.
 #![tactic(auto)]
 
-fn main() {
-    playing::run();
+fn main(rt: HostRuntime) -> std::io::Result<()> {
+    playing::run(&rt)
 }

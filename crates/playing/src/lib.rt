@@ -6,9 +6,11 @@ ghost use Rattle.io.specs.Counts.{IsPrefixLen};
 mod line;
 mod play;
 
-use libc::STDOUT_FILENO;
+use files::read_full;
 use play::put_play;
 use routine::Set;
+use std::fs::File;
+use std::io::Print;
 
 // One byte more than a good set has at the most, and one more than a play may have turns.
 const SET: usize = Set::PROCESSES * Set::BLOCK + 1;
@@ -19,24 +21,21 @@ const TURNS: usize = Set::TURNS + 1;
 const ROOM: usize = 25 + 50 * TURNS;
 
 // The bytes of a file at the start of the buffer, as many as fit; an absent file counts as empty.
-fn read_file(path: &[u8], buffer: &mut [u8]) -> usize
+fn read_file(rt: &HostRuntime, path: &str, buffer: &mut [u8]) -> usize
     ensures { IsPrefixLen result buffer.new }
 {
-    let fd = os::open_read(path);
-    if fd < 0 {
-        return 0;
+    match File::open(rt, path) {
+        Ok(mut file) => read_full(&mut file, buffer),
+        Err(_) => 0,
     }
-    let n = io::read_full(fd, buffer);
-    libc::close(fd);
-    n
 }
 
-pub fn run() {
+pub fn run(rt: &HostRuntime) -> std::io::Result<()> {
     let mut set = [0; SET];
-    let n = read_file(b"set.bin", &mut set);
+    let n = read_file(rt, "set.bin", &mut set);
     let mut turns = [0; TURNS];
-    let m = read_file(b"turns.bin", &mut turns);
+    let m = read_file(rt, "turns.bin", &mut turns);
     let mut out = [0; ROOM];
     let end = put_play(&mut out, &set[..n], &turns[..m]);
-    io::write_all(STDOUT_FILENO, &out[..end]);
+    rt.stdout().write_all(&out[..end])
 }
