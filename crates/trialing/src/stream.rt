@@ -1,11 +1,13 @@
-ghost use Rattle.std.specs.Prelude.{◌≡◌, ◌+◌, ◌*◌, ◌<◌, ◌≤◌, length};
+ghost use Rattle.std.specs.Prelude.{◌≡◌, ◌+◌, ◌*◌, ◌<◌, ◌≤◌, length, IfOk};
 ghost use Rattle.io.specs.Counts.{IsPrefixLen};
 ghost use Rattle.trialing.specs.Trial.{Stands};
 ghost use Rattle.trialing.specs.Answers.{line_room};
 
 use crate::answer::put_line;
 use crate::trial::{Next, Trial, load, trial_at};
-use libc::STDOUT_FILENO;
+use files::read_full;
+use std::fs::File;
+use std::io::Print;
 
 // How far the input is answered, where the lines of it end, and whether what follows is no trial.
 #[derive(Clone, Copy)]
@@ -29,15 +31,15 @@ const WINDOWS: usize = 0xffff_ffff;
 const ROOM: usize = 1500;
 
 // Writes the lines out where another may not fit.
-fn with_room(out: &[u8], end: usize) -> usize
+fn with_room(rt: &HostRuntime, out: &[u8], end: usize) -> std::io::Result<usize>
     requires { (end ≤ length out.now) × (line_room ≤ length out.now) }
-    ensures { result + line_room ≤ length out.now }
+    ensures { IfOk result (λ start. start + line_room ≤ length out.now) }
 {
     if ROOM <= out.len() - end {
-        return end;
+        return Ok(end);
     }
-    io::write_all(STDOUT_FILENO, &out[..end]);
-    0
+    rt.stdout().write_all(&out[..end])?;
+    Ok(0)
 }
 
 // Loads the words of a trial into a table that has so many, and answers the trial.
@@ -77,40 +79,40 @@ fn put_trial(input: &[u8], at: usize, trial: Trial, out: &mut [u8], end: usize) 
 }
 
 // Answers the whole trials of a window.
-fn answer_all(input: &[u8], out: &mut [u8]) -> Answered
+fn answer_all(rt: &HostRuntime, input: &[u8], out: &mut [u8]) -> std::io::Result<Answered>
     requires { line_room ≤ length out.old }
-    ensures { (result.at ≤ length input.now) × IsPrefixLen result.end out.new }
+    ensures { IfOk result (λ a. (a.at ≤ length input.now) × IsPrefixLen a.end out.new) }
 {
     let mut at = 0;
     let mut end = 0;
     while at < input.len() {
         match trial_at(input, at) {
             Next::Whole(trial) => {
-                let start = with_room(out, end);
+                let start = with_room(rt, out, end)?;
                 end = put_trial(input, at, trial, out, start);
                 at += trial.file + 2 * trial.words + 9;
             }
             Next::Cut => {
-                return Answered {
+                return Ok(Answered {
                     at,
                     end,
                     stop: false,
-                };
+                });
             }
             Next::Stop => {
-                return Answered {
+                return Ok(Answered {
                     at,
                     end,
                     stop: true,
-                };
+                });
             }
         }
     }
-    Answered {
+    Ok(Answered {
         at,
         end,
         stop: false,
-    }
+    })
 }
 
 // The bytes from a place up to another, moved to the start.
@@ -127,55 +129,64 @@ fn move_down(input: &mut [u8], from: usize, to: usize) -> usize
 }
 
 // Reads on behind the bytes that are left: the bytes that are there then.
-fn fill(fd: i32, input: &mut [u8], left: usize) -> usize
+fn fill(file: &mut File, input: &mut [u8], left: usize) -> usize
     requires { left ≤ length input.old }
     ensures { IsPrefixLen result input.new }
 {
-    left + io::read_full(fd, &mut input[left..])
+    left + read_full(file, &mut input[left..])
 }
 
 // Fills the window and answers.
-fn answer_window(fd: i32, input: &mut [u8], left: usize, out: &mut [u8]) -> Window
+fn answer_window(
+    rt: &HostRuntime,
+    file: &mut File,
+    input: &mut [u8],
+    left: usize,
+    out: &mut [u8],
+) -> std::io::Result<Window>
     requires { (left ≤ length input.old) × (line_room ≤ length out.old) }
-    ensures { result.left ≤ length input.new }
+    ensures { IfOk result (λ w. w.left ≤ length input.new) }
 {
-    let filled = fill(fd, input, left);
-    let answered = answer_all(&input[..filled], out);
+    let filled = fill(file, input, left);
+    let answered = answer_all(rt, &input[..filled], out)?;
     let at = answered.at;
     let end = answered.end;
-    io::write_all(STDOUT_FILENO, &out[..end]);
+    rt.stdout().write_all(&out[..end])?;
     if answered.stop {
-        io::write_all(STDOUT_FILENO, b"STOP\n");
-        return Window { left: 0, on: false };
+        rt.stdout().write_all(b"STOP\n")?;
+        return Ok(Window { left: 0, on: false });
     }
     if filled == input.len() {
-        return Window {
+        return Ok(Window {
             left: move_down(input, at, filled),
             on: true,
-        };
+        });
     }
     if at < filled {
-        io::write_all(STDOUT_FILENO, b"STOP\n");
+        rt.stdout().write_all(b"STOP\n")?;
     }
-    Window { left: 0, on: false }
+    Ok(Window { left: 0, on: false })
 }
 
-pub fn run() {
-    let fd = os::open_read(b"trials.bin");
-    if fd < 0 {
-        return;
-    }
+fn answer_file(rt: &HostRuntime, file: &mut File) -> std::io::Result<()> {
     let mut input = io::large_buffer();
     let mut out = io::large_buffer();
     let mut left = 0;
     let mut windows = WINDOWS;
     while 0 < windows {
-        let next = answer_window(fd, &mut input, left, &mut out);
+        let next = answer_window(rt, file, &mut input, left, &mut out)?;
         if !next.on {
             break;
         }
         left = next.left;
         windows -= 1;
     }
-    libc::close(fd);
+    Ok(())
+}
+
+pub fn run(rt: &HostRuntime) -> std::io::Result<()> {
+    match File::open(rt, "trials.bin") {
+        Ok(mut file) => answer_file(rt, &mut file),
+        Err(_) => Ok(()),
+    }
 }

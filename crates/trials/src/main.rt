@@ -1,6 +1,6 @@
 // Answers the trials of `trials.bin`.
 #![tactic(auto)]
 
-fn main() {
-    trialing::run();
+fn main(rt: HostRuntime) -> std::io::Result<()> {
+    trialing::run(&rt)
 }
