@@ -4,7 +4,7 @@ use Rattle.routine.specs.Test.{and}
 use Rattle.routine.specs.Routines.{Routines, kind_now, base_now, modlock, unlock, fine}
 use Rattle.routine.specs.Judging.{is_take}
 use Rattle.rules.specs.declared.Words.{Words}
-use Rattle.rules.specs.Table.{lock, nomore, count, call, phase, wake, entry, words_at, put_marks, put_words}
+use Rattle.rules.specs.Table.{call, phase, entry, words_at, put_marks, put_words}
 use Rattle.rules.specs.Consistent.{mark_now}
 use Rattle.rules.specs.declared.Next.{Next}
 use Rattle.rules.specs.declared.Next.TheVariants as Nx

@@ -1,4 +1,4 @@
-ghost use Rattle.std.specs.Prelude.{◌≡◌, ◌+◌, ◌*◌, ◌<◌, ◌≤◌, length, IfOk};
+ghost use Rattle.std.specs.Prelude.{◌≡◌, ◌+◌, ◌*◌, ◌<◌, ◌≤◌, length, IfOk, OnErr};
 ghost use Rattle.io.specs.Counts.{IsPrefixLen};
 ghost use Rattle.trialing.specs.Trial.{Stands};
 ghost use Rattle.trialing.specs.Answers.{line_room};
@@ -81,7 +81,8 @@ fn put_trial(input: &[u8], at: usize, trial: Trial, out: &mut [u8], end: usize) 
 // Answers the whole trials of a window.
 fn answer_all(rt: &HostRuntime, input: &[u8], out: &mut [u8]) -> std::io::Result<Answered>
     requires { line_room ≤ length out.old }
-    ensures { IfOk result (λ a. (a.at ≤ length input.now) × IsPrefixLen a.end out.new) }
+    ensures ok { IfOk result (λ a. (a.at ≤ length input.now) × IsPrefixLen a.end out.new) }
+    ensures err { OnErr result (length out.new ≡ length out.old) }
 {
     let mut at = 0;
     let mut end = 0;
@@ -145,7 +146,8 @@ fn answer_window(
     out: &mut [u8],
 ) -> std::io::Result<Window>
     requires { (left ≤ length input.old) × (line_room ≤ length out.old) }
-    ensures { IfOk result (λ w. w.left ≤ length input.new) }
+    ensures ok { IfOk result (λ w. w.left ≤ length input.new) }
+    ensures err { OnErr result ((length input.new ≡ length input.old) × (length out.new ≡ length out.old)) }
 {
     let filled = fill(file, input, left);
     let answered = answer_all(rt, &input[..filled], out)?;
