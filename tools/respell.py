@@ -9,6 +9,7 @@ names, strings, inputs and outputs keep their names. Pages say the new names whe
 """
 import pathlib
 import re
+import sys
 
 ROOT = pathlib.Path(__file__).resolve().parent.parent
 OURS = {p.name for p in (ROOT / "crates").iterdir()}
@@ -117,6 +118,8 @@ def turned_page(path, new):
 
 
 def main():
+    if (ROOT / "docs/PORT.md").exists():
+        sys.exit("respell: the names were respelled already (docs/PORT.md); a second time would rename what is right")
     new = table()
     both = {}
     for name, to in sorted(new.items()):

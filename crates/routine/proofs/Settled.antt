@@ -10,7 +10,7 @@ use Rattle.routine.proofs.holds.fine.Reads as fine_reads
 use Rattle.routine.proofs.holds.mark_in.Reads as mark_in_reads
 use Rattle.routine.proofs.holds.marked.Reads as marked_reads
 use Rattle.routine.proofs.range.within.Reads as within_reads
-use Rattle.routine.proofs.set.Set.new.Reads as set_Reads
+use Rattle.routine.proofs.set.Set.new.Reads as set_reads
 use Rattle.routine.proofs.set.Set.limits.Reads as limits_reads
 use Rattle.routine.proofs.refusal.Refusal.new.Reads as refusal_reads
 use Rattle.routine.proofs.refusal.Refusal.none.Reads as none_reads
@@ -42,7 +42,7 @@ marked_settled κs a r s x y p q = p ∙ sym q
 pub within_settled : (κs : Lfts 0) (a : _) (r s : _) (x y : _) → within_reads.Post κs a r x → within_reads.Post κs a s y → r ≡ s
 within_settled κs a r s x y p q = p ∙ sym q
 
-pub set_settled : (κs : Lfts 0) (a : _) (r s : _) (x y : _) → set_Reads.Post κs a r x → set_Reads.Post κs a s y → r ≡ s
+pub set_settled : (κs : Lfts 0) (a : _) (r s : _) (x y : _) → set_reads.Post κs a r x → set_reads.Post κs a s y → r ≡ s
 set_settled κs a r s x y p q = p ∙ sym q
 
 pub limits_settled : (κs : Lfts 0) (a : _) (r s : _) (x y : _) → limits_reads.Post κs a r x → limits_reads.Post κs a s y → r ≡ s

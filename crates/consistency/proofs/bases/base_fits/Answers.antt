@@ -10,8 +10,8 @@ use Rattle.consistency.specs.Holders.{lock_fits_in, readers_in, base_fits_in}
 use Rattle.consistency.proofs.bases.base_fits.Goals as goal
 use Rattle.consistency.proofs.bases.base_fits.Goals.{After-lock_fits, Else-count-readers, Else-nomore-gt1}
 
-switch-off : (c : Else-nomore-gt1) → leb (nomore c.args.table.now c.args.b) 1 ≡ true
-switch-off c =
+switch_off : (c : Else-nomore-gt1) → leb (nomore c.args.table.now c.args.b) 1 ≡ true
+switch_off c =
     let e = c.nomore.ensures in
     le-leb (nomore c.args.table.now c.args.b) 1 (omega arith)
 
@@ -35,13 +35,13 @@ returns-then-nomore-gt1 c =
 
 pub returns-then-not-lock_fits : goal.returns-then-not-lock_fits
 unfolding base_fits_in
-returns-then-not-lock_fits c = sym (and_skip _ _ (switch-off (goal.at.returns-then-not-lock_fits c).Else-nomore-gt1) ∙ and_stop _ _ (sym (owned (goal.at.returns-then-not-lock_fits c).After-lock_fits) ∙ c.if-not-lock_fits.true))
+returns-then-not-lock_fits c = sym (and_skip _ _ (switch_off (goal.at.returns-then-not-lock_fits c).Else-nomore-gt1) ∙ and_stop _ _ (sym (owned (goal.at.returns-then-not-lock_fits c).After-lock_fits) ∙ c.if-not-lock_fits.true))
 
 pub returns-then-count-readers : goal.returns-then-count-readers
 unfolding base_fits_in
 returns-then-count-readers c =
     sym
-    (and_skip _ _ (switch-off (goal.at.returns-then-count-readers c).Else-nomore-gt1)
+    (and_skip _ _ (switch_off (goal.at.returns-then-count-readers c).Else-nomore-gt1)
     ∙ and_skip _ _ (sym (owned (goal.at.returns-then-count-readers c).After-lock_fits) ∙ c.if-not-lock_fits.false)
     ∙ and_stop _ _ (ne_eqb _ _ (λ z. c.if-count-readers.true (c.count-count.ensures ∙ z ∙ sym c.readers-readers.ensures))))
 
@@ -49,7 +49,7 @@ pub returns-then-lock-eq0 : goal.returns-then-lock-eq0
 unfolding base_fits_in
 returns-then-lock-eq0 c =
     sym
-    (and_skip _ _ (switch-off (goal.at.returns-then-lock-eq0 c).Else-nomore-gt1)
+    (and_skip _ _ (switch_off (goal.at.returns-then-lock-eq0 c).Else-nomore-gt1)
     ∙ and_skip _ _ (sym (owned (goal.at.returns-then-lock-eq0 c).After-lock_fits) ∙ c.if-not-lock_fits.false)
     ∙ and_skip _ _ (counted (goal.at.returns-then-lock-eq0 c).Else-count-readers)
     ∙ either _ _ (eq-eqb _ _ (sym c.lock-lock.ensures ∙ c.if-lock-eq0.true)))
@@ -59,7 +59,7 @@ unfolding base_fits_in
 returns c =
     ap (λ x. eqb x 0) c.count-count.ensures
     ∙ sym
-    (and_skip _ _ (switch-off (goal.at.returns c).Else-nomore-gt1)
+    (and_skip _ _ (switch_off (goal.at.returns c).Else-nomore-gt1)
     ∙ and_skip _ _ (sym (owned (goal.at.returns c).After-lock_fits) ∙ c.if-not-lock_fits.false)
     ∙ and_skip _ _ (counted (goal.at.returns c).Else-count-readers)
     ∙ other _ _ (ne_eqb _ _ (λ z. c.if-lock-eq0.false (c.lock-lock.ensures ∙ z))))

@@ -63,8 +63,8 @@ row_of : (c : Else-not-done) → RowOf c.follow-done.result.row (routines c.args
 row_of c = (told (goal.at.Else-not-done c).After-follow-done).1 (not-false _ c.if-not-done.false)
 
 -- the current call
-now-is : (c : After-call_at-now) → c.call_at-now.result ≡ call_of (kind_now (routines c.args.file.now) c.args.p c.call-k.result) (base_now (routines c.args.file.now) c.args.p c.call-k.result)
-now-is c = c.call_at-now.ensures ∙ call_now _ _ _ c.requires.1 c.requires.2 (c.requires.0.few_calls _ c.requires.1 c.requires.2)
+now_is : (c : After-call_at-now) → c.call_at-now.result ≡ call_of (kind_now (routines c.args.file.now) c.args.p c.call-k.result) (base_now (routines c.args.file.now) c.args.p c.call-k.result)
+now_is c = c.call_at-now.ensures ∙ call_now _ _ _ c.requires.1 c.requires.2 (c.requires.0.few_calls _ c.requires.1 c.requires.2)
 
 stood : (c : After-stands_well) → c.stands_well.result ≡ stands_well (phase c.args.table.now c.args.p) (kind_now (routines c.args.file.now) c.args.p (call c.args.table.now c.args.p)) (mark_now (routines c.args.file.now) c.args.p (call c.args.table.now c.args.p))
 stood c =
@@ -72,7 +72,7 @@ stood c =
     let p = c.args.p in
     let k = c.call-k.result in
     let l = low (goal.at.After-stands_well c).Else-not-call_fits in
-    let n = now-is (goal.at.After-stands_well c).After-call_at-now in
+    let n = now_is (goal.at.After-stands_well c).After-call_at-now in
     let m = c.mark_in.ensures ∙ ap (λ x. mark_in c.follow-done.result.row x.base) n ∙ mark_seen S c.requires.0 p c.requires.1 c.requires.2 c.follow-done.result.row k (omega (arith, c.call-k.ensures.0)) (row_of (goal.at.After-stands_well c).Else-not-done) in
     c.stands_well.ensures
     ∙ ap (λ ph. stands_well ph c.call_at-now.result.kind c.mark_in.result) c.phase-ph.ensures.0
@@ -121,5 +121,5 @@ returns c =
     let k = c.call-k.ensures.0 in
     let ph = c.phase-ph.ensures.0 in record {
       judged = sym (and_skip _ _ (small (goal.at.returns c).Else-ph-gt7) ∙ and_skip _ _ (sym (placed (goal.at.returns c).After-call_fits) ∙ c.if-not-call_fits.false) ∙ and_skip _ _ (sym (followed (goal.at.returns c).After-follow-done) ∙ not-false _ c.if-not-done.false) ∙ and_skip _ _ (sym (stood (goal.at.returns c).After-stands_well) ∙ c.if-not-stands_well.false) ∙ sym (allowed (goal.at.returns c).After-marks_allowed) ∙ c.if-not-marks_allowed.false);
-      held = λ t. rw (← k, ← ph, c.held_now.ensures, now-is (goal.at.returns c).After-call_at-now) (held_seen _ c.requires.0 _ c.requires.1 c.requires.2 _ _ (omega (arith, k)) (row_of (goal.at.returns c).Else-not-done) c.phase-ph.result (λ ne. let h = l.1 (λ z. ne (ph ∙ z)) in omega (arith, k)));
+      held = λ t. rw (← k, ← ph, c.held_now.ensures, now_is (goal.at.returns c).After-call_at-now) (held_seen _ c.requires.0 _ c.requires.1 c.requires.2 _ _ (omega (arith, k)) (row_of (goal.at.returns c).Else-not-done) c.phase-ph.result (λ ne. let h = l.1 (λ z. ne (ph ∙ z)) in omega (arith, k)));
     }

@@ -27,8 +27,8 @@ high : (c : After-call_at-now) → c.args.p ≤ (routines c.args.file.now).N
 high c = omega (arith, c.requires.1)
 
 -- the current call
-now-is : (c : After-call_at-now) → c.call_at-now.result ≡ call_of (kind_now (routines c.args.file.now) c.args.p (call c.args.table.now c.args.p)) (base_now (routines c.args.file.now) c.args.p (call c.args.table.now c.args.p))
-now-is c =
+now_is : (c : After-call_at-now) → c.call_at-now.result ≡ call_of (kind_now (routines c.args.file.now) c.args.p (call c.args.table.now c.args.p)) (base_now (routines c.args.file.now) c.args.p (call c.args.table.now c.args.p))
+now_is c =
     c.call_at-now.ensures
     ∙ call_now _ _ _ c.requires.2 (high c) (c.requires.0.file.few_calls _ c.requires.2 (high c))
     ∙ ap (λ k. call_of (kind_now (routines c.args.file.now) c.args.p k) (base_now (routines c.args.file.now) c.args.p k)) c.call-k.ensures.0
@@ -36,12 +36,12 @@ now-is c =
 -- an unfinished process stands at a call
 stands : (c : Else-now-eq0) → (call c.args.table.now c.args.p < (routines c.args.file.now).calls c.args.p) × CallNow (routines c.args.file.now) c.args.p (call c.args.table.now c.args.p)
 stands c =
-    let l = at_call _ _ _ (λ z. c.if-now-eq0.false (ap (λ x. x.kind) (now-is (goal.at.Else-now-eq0 c).After-call_at-now) ∙ z)) in
+    let l = at_call _ _ _ (λ z. c.if-now-eq0.false (ap (λ x. x.kind) (now_is (goal.at.Else-now-eq0 c).After-call_at-now) ∙ z)) in
     (l, holding.call_now _ c.requires.0.file _ _ c.requires.2 (high (goal.at.Else-now-eq0 c).After-call_at-now) l)
 
 -- its base is one of the file's
 based : (c : Else-now-eq0) → (1 ≤ c.call_at-now.result.base) × (c.call_at-now.result.base ≤ (routines c.args.file.now).B)
-based c = let s = stands c in let e = ap (λ x. x.base) (now-is (goal.at.Else-now-eq0 c).After-call_at-now) in omega arith
+based c = let s = stands c in let e = ap (λ x. x.base) (now_is (goal.at.Else-now-eq0 c).After-call_at-now) in omega arith
 
 -- what the turn leaves of the words is what the definition says
 told : (c : After-next) → c.next.result ≡ next_at (routines c.args.file.now) c.args.table.now c.args.p
@@ -51,7 +51,7 @@ told c =
     let S = routines a.file.now in
     let k = call a.table.now a.p in
     let row = c.follow-done.result.row in
-    let n = now-is (goal.at.After-next c).After-call_at-now in
+    let n = now_is (goal.at.After-next c).After-call_at-now in
     let s = stands (goal.at.After-next c).Else-now-eq0 in
     let d = followed a.file.now c.requires.0.file a.p c.requires.2 (high (goal.at.After-next c).After-call_at-now) c.call-k.result (omega (arith, c.call-k.ensures.0)) c.follow-done.result c.follow-done.ensures in
     let f = d.0 ∙ ap (completed_fine S a.p) c.call-k.ensures.0 ∙ all_fine S a.table.now a.p (agrees (goal.at.After-next c).After-call_at-now) c.requires.2 (high (goal.at.After-next c).After-call_at-now) in
@@ -69,7 +69,7 @@ done c = elim (dec_le ((routines c.args.file.now).calls c.args.p) (call c.args.t
   | yes h ↦ h
   | no h ↦ (let l : call c.args.table.now c.args.p < (routines c.args.file.now).calls c.args.p = omega arith in
       let n = holding.call_now _ c.requires.0.file _ _ c.requires.2 (high (goal.at.Then-now-eq0 c).After-call_at-now) l in
-      absurd (omega (arith, ap (λ x. x.kind) (now-is (goal.at.Then-now-eq0 c).After-call_at-now), c.if-now-eq0.true, n.kind_low)))
+      absurd (omega (arith, ap (λ x. x.kind) (now_is (goal.at.Then-now-eq0 c).After-call_at-now), c.if-now-eq0.true, n.kind_low)))
 ]
 
 pub returns-then-now-eq0 : goal.returns-then-now-eq0
@@ -106,6 +106,6 @@ returns-in-Moved c =
           ∙ ap (λ u. put_words u b a.p x) c.notify.ensures
           ∙ ap (λ w. put_words (cond (eqb w.phase 6) (notified S b t a.n) t) b a.p x) c.words_at-w.ensures
           ∙ ap (λ n. put_words (cond (eqb (phase t a.p) 6) (notified S b t n) t) b a.p x) c.requires.1
-          ∙ ap (λ y. put_words (cond (eqb (phase t a.p) 6) (notified S y.base t S.N) t) y.base a.p x) (now-is (goal.at.returns-in-Moved c).After-call_at-now)
+          ∙ ap (λ y. put_words (cond (eqb (phase t a.p) 6) (notified S y.base t S.N) t) y.base a.p x) (now_is (goal.at.returns-in-Moved c).After-call_at-now)
           ∙ sym m.1;
     }

@@ -39,8 +39,8 @@ the c =
     let o = own (goal.at.After-call_at-call c).After-calls_in-calls in
     c.call_at-call.ensures ∙ call_is _ _ _ o.0 o.1 (inside (goal.at.After-call_at-call c).In-loop-k) (c.requires.0.few_calls _ o.0 o.1)
 
-base-in : (c : After-call_at-call) → (1 ≤ (routines c.args.file.now).base c.walk.p c.loop-k.k) × ((routines c.args.file.now).base c.walk.p c.loop-k.k ≤ most_bases)
-base-in c =
+base_in : (c : After-call_at-call) → (1 ≤ (routines c.args.file.now).base c.walk.p c.loop-k.k) × ((routines c.args.file.now).base c.walk.p c.loop-k.k ≤ most_bases)
+base_in c =
     let o = own (goal.at.After-call_at-call c).After-calls_in-calls in
     let w = c.requires.0 in
     (w.base_low _ _ o.0 o.1 (inside (goal.at.After-call_at-call c).In-loop-k), omega (arith, w.base_high _ _ o.0 o.1 (inside (goal.at.After-call_at-call c).In-loop-k)))
@@ -48,12 +48,12 @@ base-in c =
 -- what the code says of the call is what the judge says of place k
 judged : (c : After-call_good) → c.call_good.result ≡ place_good (routines c.args.file.now) c.walk.p c.loop-k.k
 judged c =
-    let b = base-in (goal.at.After-call_good c).After-call_at-call in
+    let b = base_in (goal.at.After-call_good c).After-call_at-call in
     (rw (the (goal.at.After-call_good c).After-call_at-call) at c.call_good.ensures) ∙ row_call _ _ _ _ c.loop-k.invariant.2 _ _ b.0 b.1 ∙ sym (place_call _ _ _ (inside (goal.at.After-call_good c).In-loop-k))
 
 -- and at the end, of place n + 1
-judged-end : (c : After-nothing_held) → c.nothing_held.result ≡ place_good (routines c.args.file.now) c.walk.p c.loop-k.k
-judged-end c =
+judged_end : (c : After-nothing_held) → c.nothing_held.result ≡ place_good (routines c.args.file.now) c.walk.p c.loop-k.k
+judged_end c =
     let o = own (goal.at.After-nothing_held c).After-calls_in-calls in
     c.nothing_held.ensures ∙ row_end _ _ _ _ c.loop-k.invariant.2 ∙ sym (place_end _ _ _ (omega arith))
 
@@ -77,7 +77,7 @@ overflow_add-calls c = let o = own (goal.at.overflow_add-calls c).After-calls_in
 pub loop-k-preserved : goal.loop-k-preserved
 loop-k-preserved c =
     let l = c.loop-k in
-    let b = base-in (goal.at.loop-k-preserved c).After-call_at-call in
+    let b = base_in (goal.at.loop-k-preserved c).After-call_at-call in
     let g = sym (judged (goal.at.loop-k-preserved c).After-call_good) ∙ c.if-not-call_good.false in
     let i = inside (goal.at.loop-k-preserved c).In-loop-k in
     let m = rw (the (goal.at.loop-k-preserved c).After-call_at-call) at c.marked-next.ensures in
@@ -87,7 +87,7 @@ pub walk-preserved : goal.walk-preserved
 walk-preserved c =
     let o = own (goal.at.walk-preserved c).After-calls_in-calls in
     let l = c.loop-k in
-    let g = sym (judged-end (goal.at.walk-preserved c).After-nothing_held) ∙ c.if-not-nothing_held.false in
+    let g = sym (judged_end (goal.at.walk-preserved c).After-nothing_held) ∙ c.if-not-nothing_held.false in
     (omega arith, omega arith, l.invariant.1, goes_on _ _ l.k l.invariant.3 c.walk.invariant.3 o.1 (omega arith) g)
 
 pub returns-after-walk : goal.returns-after-walk
@@ -104,6 +104,6 @@ pub returns-then-not-nothing_held : goal.returns-then-not-nothing_held
 returns-then-not-nothing_held c =
     let o = own (goal.at.returns-then-not-nothing_held c).After-calls_in-calls in
     let l = c.loop-k in
-    let f = sym (judged-end (goal.at.returns-then-not-nothing_held c).After-nothing_held) ∙ c.if-not-nothing_held.true in
+    let f = sym (judged_end (goal.at.returns-then-not-nothing_held c).After-nothing_held) ∙ c.if-not-nothing_held.true in
     let e : l.k ≡ c.calls_in-calls.result = omega arith in
     c.new-found-then-not-nothing_held.ensures ∙ rw (← e) (sym (stops _ _ l.k l.invariant.3 c.walk.invariant.3 o.1 (omega arith) f))
