@@ -1,3 +1,4 @@
+mod Each
 mod Rows
 pub mod Seen
 pub mod Settled

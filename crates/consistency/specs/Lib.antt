@@ -1,3 +1,2 @@
 pub mod Following
 pub mod Holders
-pub mod Due

@@ -1,41 +1,33 @@
 ghost use Rattle.std.specs.Prelude.{◌≡◌};
-ghost use Rattle.consistency.specs.Following.{fine_in, following};
+ghost use Rattle.std.specs.Bool.{then_some};
+ghost use Rattle.consistency.specs.Following.{row_with, fine_in, following};
 
 use routine::Set;
 use routine::calls::{Call, call_at};
 use routine::holds::{FREE, Row, fine, mark_in, marked};
 
-// The completed calls of a process, followed from nothing held: whether they are there and none was a logic error in its turn, and what they leave held, up to the first that fails.
-#[derive(Clone, Copy)]
-pub struct Followed {
-    pub fine: bool,
-    pub row: Row,
-}
-
-// Whether there is a call, and it is no logic error where these marks are held.
-fn fine_in(row: Row, call: Call) -> bool
-    ensures { result ≡ fine_in row call }
+// The row after a call, where there is one of some kind, and it is no logic error where these marks are held.
+fn row_with(row: Row, call: Option<Call>) -> Option<Row>
+    ensures { result ≡ then_some (fine_in row call) (row_with row call) }
 {
-    if call.kind == 0 {
-        return false;
+    let call = call?;
+    // A byte of a file that nobody has read may be 0, which is no kind.
+    if call.kind == 0 || !fine(call.kind, mark_in(row, call.base)) {
+        return None;
     }
-    fine(call.kind, mark_in(row, call.base))
+    Some(marked(row, call.kind, call.base))
 }
 
-// The first k calls of process p.
-pub fn follow(file: &[u8], p: usize, k: usize) -> Followed
+// What the first k calls of process p leave held, from nothing on, where they are all there and none was a logic error in its turn; else what was held when the first that is not came.
+pub fn follow(file: &[u8], p: usize, k: usize) -> Result<Row, Row>
     ensures { result ≡ following file.now p k }
 {
     let mut row = [FREE; Set::BASES];
-    let mut j = 0;
-    while j < k {
-        let call = call_at(file, p, j);
-        if !fine_in(row, call) {
-            return Followed { fine: false, row };
+    for j in 0..k {
+        match row_with(row, call_at(file, p, j)) {
+            Some(next) => row = next,
+            None => return Err(row),
         }
-        let next = marked(row, call.kind, call.base);
-        row = next;
-        j += 1;
     }
-    Followed { fine: true, row }
+    Ok(row)
 }

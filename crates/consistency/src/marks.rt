@@ -1,5 +1,8 @@
-ghost use Rattle.std.specs.Prelude.{◌≡◌, ◌≤◌};
+ghost use Rattle.std.specs.Prelude.{◌≡◌, ◌<◌};
 ghost use Rattle.rules.specs.Consistent.{marks_allowed};
+ghost use Rattle.rules.specs.Phase.{phase_number};
+
+use rules::Phase;
 
 // The marks that each phase allows: for each phase, then for each WAKE, whether ENTRY may be 0 and whether it may be 1.
 const ALLOWED: [[[bool; 2]; 2]; 8] = [
@@ -13,15 +16,17 @@ const ALLOWED: [[[bool; 2]; 2]; 8] = [
     [[true, false], [false, false]], // 7, stopped
 ];
 
-pub(crate) fn marks_allowed(phase: usize, wake: usize, entry: usize) -> bool
-    requires { phase ≤ 7 }
-    ensures { result ≡ marks_allowed phase wake entry }
+fn number(phase: Phase) -> usize
+    ensures { (result ≡ phase_number phase) × (result < 8) }
 {
-    if 1 < wake {
+    phase as usize
+}
+
+pub(crate) fn marks_allowed(phase: Phase, wake: usize, entry: usize) -> bool
+    ensures { result ≡ marks_allowed (phase_number phase) wake entry }
+{
+    if 1 < wake || 1 < entry {
         return false;
     }
-    if 1 < entry {
-        return false;
-    }
-    ALLOWED[phase][wake][entry]
+    ALLOWED[number(phase)][wake][entry]
 }

@@ -1,8 +1,6 @@
 -- "Examples on either side": those marked (P), in document 01's order, as one list.
-use Rattle.std.specs.Prelude.{◌≡◌, true, List, [], ◌∷◌, ◌++◌, ℕ, replicate}
-use Rattle.routine.specs.declared.Reading.TheVariants as Rd
-use Rattle.routine.specs.declared.Verdict.TheVariants as Vd
-use Rattle.routine.specs.Refusal.{refusal_of}
+use Rattle.std.specs.Prelude.{◌≡◌, true, List, [], ◌∷◌, ◌++◌, ℕ, replicate, Ok}
+use Rattle.routine.specs.Refusal.{shown_of, numbers}
 use Rattle.routine.specs.Block.{block, check}
 use Rattle.routine.specs.Routines.{routines, modlock, readlock, decrease}
 use Rattle.routine.specs.Reading.{length_good, reading}
@@ -29,9 +27,9 @@ pub data Example : Type 0 where
 
 abbrev pub Holds : Example → Type 0
 Holds (checks f p c) = check (block f p) ≡ c
-Holds (passes f) = judging f ≡ Vd.Passes
-Holds (fails_at f p k) = judging f ≡ Vd.Refused (refusal_of 4 p k)
-Holds (too_long_or_short n) = reading (replicate n 0) ≡ Rd.Refused (refusal_of 1 0 0)
+Holds (passes f) = judging f ≡ Ok tt
+Holds (fails_at f p k) = numbers (judging f) ≡ shown_of 4 p k
+Holds (too_long_or_short n) = numbers (reading (replicate n 0)) ≡ shown_of 1 0 0
 Holds (length_not_refused n) = length_good n ≡ true
 Holds (leaves f ts t) = play (routines f) fresh ts ≡ t
 Holds (all_move_and_stand f ts m s) = (moved_in (routines f) fresh ts ≡ m) × (standing_of (routines f) (play (routines f) fresh ts) ≡ s)

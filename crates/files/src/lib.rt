@@ -11,22 +11,13 @@ pub fn read_full(file: &mut File, buffer: &mut [u8]) -> usize
     ensures { IsPrefixLen result buffer.new }
 {
     let mut done = 0;
+    // No for: nothing says how many reads come.
     while done < buffer.len() {
-        let n = read_some(file, &mut buffer[done..]);
+        let n = file.read(&mut buffer[done..]).unwrap_or(0);
         if n == 0 {
             break;
         }
         done += n;
     }
     done
-}
-
-// One read: 0 where there is nothing more, or it fails.
-fn read_some(file: &mut File, buffer: &mut [u8]) -> usize
-    ensures { IsPrefixLen result buffer.new }
-{
-    match file.read(buffer) {
-        Ok(n) => n,
-        Err(_) => 0,
-    }
 }

@@ -1,2 +1,3 @@
 pub mod Settled
-mod Tries
+mod Doings
+mod Looks

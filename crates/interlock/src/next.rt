@@ -1,194 +1,215 @@
-ghost use Rattle.std.specs.Prelude.{◌≡◌, ◌≤◌};
+#![tactic(auto, unfolding(routine::specs::Test::and, routine::specs::Judging::is_take, rules::specs::Phase::phase_number, rules::specs::Turn::to_phase, rules::specs::Turn::completed, rules::specs::Turn::with_base, rules::specs::Turn::with_marks, rules::specs::Turn::succeeds, rules::specs::Turn::taken, rules::specs::Turn::take, rules::specs::Turn::release, rules::specs::Turn::lessen, rules::specs::Turn::begin, rules::specs::Turn::start, rules::specs::Turn::enlist, rules::specs::Turn::retry, rules::specs::Turn::delist, rules::specs::Turn::switch, rules::specs::Turn::next))]
+
+ghost use Rattle.std.specs.Prelude.{◌≡◌, ◌≢◌, ◌≤◌};
 ghost use Rattle.routine.specs.Limits.{most_processes, most_calls};
-ghost use Rattle.rules.specs.Turn.{succeeds, taken, take, release, lessen, begin, start, enlist, retry, delist, switch, await, next};
-ghost use Rattle.interlock.specs.Going.{go_on};
+ghost use Rattle.rules.specs.Turn.{succeeds, taken, take, release, lessen, begin, start, enlist, retry, delist, switch, await, next, to_phase, completed};
+ghost use Rattle.rules.specs.Phase.{phase_number};
 
 use routine::calls::Call;
 use routine::holds::{Mark, fine};
-use rules::{Next, Words};
+use rules::{Phase, Words};
 
-// The phase of a call that is complete.
-const COMPLETE: u16 = 0;
-
-// The call goes on in this phase, or is complete.
-fn go_on(phase: u16, w: Words) -> Words
-    requires { w.call ≤ most_calls }
-    ensures { result ≡ go_on phase w }
-{
-    let mut x = w;
-    x.phase = phase;
-    if phase != COMPLETE {
-        return x;
-    }
-    x.call = w.call + 1;
-    x
+// What a process looks at in its turn: the call at which it stands, the mark that its completed calls leave on that call's base, and the words of the base and its own.
+#[derive(Clone, Copy)]
+pub(crate) struct Turn {
+    pub(crate) process: u16,
+    pub(crate) call: Call,
+    pub(crate) mark: Mark,
+    pub(crate) words: Words,
+    ghost a_call: { call.kind ≢ 0 },
+    ghost few_readers: { words.count ≤ most_processes },
+    ghost few_calls: { words.call ≤ most_calls },
 }
 
-// Whether a try succeeds.
-fn succeeds(kind: usize, w: Words) -> bool
-    ensures { result ≡ succeeds kind w }
+fn to_phase(phase: Phase, words: Words) -> Words
+    ensures { result ≡ to_phase (phase_number phase) words }
 {
-    if w.lock != 0 {
-        return false;
+    Words {
+        phase: u16::from(phase),
+        ..words
     }
-    if kind == Call::MODLOCK {
-        return w.count == 0;
-    }
-    w.nomore == 0
 }
 
-// What a try that succeeds leaves.
-fn taken(p: u16, kind: usize, w: Words) -> Words
-    requires { w.count ≤ most_processes }
-    ensures { result ≡ taken p kind w }
+// The call is complete.
+fn completed(words: Words) -> Words
+    requires { words.call ≤ most_calls }
+    ensures { result ≡ completed words }
 {
-    let mut x = w;
-    if kind == Call::MODLOCK {
-        x.lock = p;
-        return x;
+    Words {
+        call: words.call + 1,
+        phase: u16::from(Phase::Start),
+        ..words
     }
-    x.count = w.count + 1;
-    x
 }
 
-// Phase 0, modlock or readlock.
-fn take(p: u16, kind: usize, w: Words) -> Words
-    requires { (w.count ≤ most_processes) × (w.call ≤ most_calls) }
-    ensures { result ≡ take p kind w }
-{
-    if succeeds(kind, w) {
-        return go_on(COMPLETE, taken(p, kind, w));
+impl Turn {
+    // What the turn leaves of the words, if it is not idle.
+    pub(crate) fn next(self) -> Option<Words>
+        ensures { result ≡ next self.process self.call.kind self.mark self.words }
+    {
+        match Phase::try_from(usize::from(self.words.phase)).ok()? {
+            Phase::Start => Some(self.start()),
+            Phase::Enlist => Some(self.enlist()),
+            Phase::SecondTry => Some(self.retry()),
+            Phase::Delist => Some(self.delist()),
+            Phase::SetSwitch => Some(self.switch()),
+            Phase::Waiting => self.await_wake(),
+            Phase::Notify => Some(completed(self.words)),
+            Phase::Stopped => None,
+        }
     }
-    go_on(1, w)
-}
 
-// Phase 0, unlock.
-fn release(w: Words) -> Words
-    requires { w.call ≤ most_calls }
-    ensures { result ≡ release w }
-{
-    let mut x = w;
-    x.lock = 0;
-    x.nomore = 0;
-    go_on(6, x)
-}
-
-// Phase 0, decrease.
-fn lessen(w: Words) -> Words
-    requires { (w.count ≤ most_processes) × (w.call ≤ most_calls) }
-    ensures { result ≡ lessen w }
-{
-    if w.count <= 1 {
-        let mut last = w;
-        last.nomore = 0;
-        last.count = 0;
-        return go_on(6, last);
+    // Whether a try succeeds.
+    fn succeeds(self) -> bool
+        ensures { result ≡ succeeds self.call.kind self.words }
+    {
+        let w = self.words;
+        w.lock == 0
+            && if self.call.kind == Call::MODLOCK {
+                w.count == 0
+            } else {
+                w.nomore == 0
+            }
     }
-    let mut x = w;
-    x.count = w.count - 1;
-    go_on(COMPLETE, x)
-}
 
-// Phase 0, at a call that is no logic error.
-fn begin(p: u16, kind: usize, w: Words) -> Words
-    requires { (w.count ≤ most_processes) × (w.call ≤ most_calls) }
-    ensures { result ≡ begin p kind w }
-{
-    if kind <= Call::READLOCK {
-        return take(p, kind, w);
+    // What a try that succeeds leaves.
+    fn taken(self) -> Words
+        ensures { result ≡ taken self.process self.call.kind self.words }
+    {
+        let w = self.words;
+        if self.call.kind == Call::MODLOCK {
+            return Words {
+                lock: self.process,
+                ..w
+            };
+        }
+        Words {
+            count: w.count + 1,
+            ..w
+        }
     }
-    if kind == Call::UNLOCK {
-        return release(w);
+
+    // Phase 0, modlock or readlock.
+    fn take(self) -> Words
+        ensures { result ≡ take self.process self.call.kind self.words }
+    {
+        if self.succeeds() {
+            return completed(self.taken());
+        }
+        to_phase(Phase::Enlist, self.words)
     }
-    lessen(w)
-}
 
-// Phase 0: a finished process idles, and a logic error stops.
-fn start(p: u16, kind: usize, old: Mark, w: Words) -> Next
-    requires { (w.count ≤ most_processes) × (w.call ≤ most_calls) }
-    ensures { result ≡ start p kind old w }
-{
-    if kind == 0 {
-        return Next::Idle;
+    // Phase 0, unlock.
+    fn release(self) -> Words
+        ensures { result ≡ release self.words }
+    {
+        let free = Words {
+            lock: 0,
+            nomore: 0,
+            ..self.words
+        };
+        to_phase(Phase::Notify, free)
     }
-    if fine(kind, old) {
-        return Next::Moved(begin(p, kind, w));
+
+    // Phase 0, decrease.
+    fn lessen(self) -> Words
+        ensures { result ≡ lessen self.words }
+    {
+        let w = self.words;
+        if w.count <= 1 {
+            let last = Words {
+                nomore: 0,
+                count: 0,
+                ..w
+            };
+            return to_phase(Phase::Notify, last);
+        }
+        let fewer = Words {
+            count: w.count - 1,
+            ..w
+        };
+        completed(fewer)
     }
-    Next::Moved(go_on(7, w))
-}
 
-// Phase 1.
-fn enlist(w: Words) -> Words
-    requires { w.call ≤ most_calls }
-    ensures { result ≡ enlist w }
-{
-    let mut x = w;
-    x.entry = 1;
-    go_on(2, x)
-}
-
-// Phase 2: the second try.
-fn retry(p: u16, kind: usize, w: Words) -> Words
-    requires { (w.count ≤ most_processes) × (w.call ≤ most_calls) }
-    ensures { result ≡ retry p kind w }
-{
-    if succeeds(kind, w) {
-        return go_on(3, taken(p, kind, w));
+    // Phase 0, at a call that is no logic error.
+    fn begin(self) -> Words
+        ensures { result ≡ begin self.process self.call.kind self.words }
+    {
+        match self.call.kind {
+            ..=Call::READLOCK => self.take(),
+            Call::UNLOCK => self.release(),
+            _ => self.lessen(),
+        }
     }
-    if kind == Call::MODLOCK {
-        return go_on(4, w);
+
+    // Phase 0: a logic error stops.
+    fn start(self) -> Words
+        ensures { start self.process self.call.kind self.mark self.words ≡ Some result }
+    {
+        if fine(self.call.kind, self.mark) {
+            return self.begin();
+        }
+        to_phase(Phase::Stopped, self.words)
     }
-    go_on(5, w)
-}
 
-// Phase 3.
-fn delist(w: Words) -> Words
-    requires { w.call ≤ most_calls }
-    ensures { result ≡ delist w }
-{
-    let mut x = w;
-    x.wake = 0;
-    x.entry = 0;
-    go_on(COMPLETE, x)
-}
-
-// Phase 4: the switch is set.
-fn switch(w: Words) -> Words
-    requires { w.call ≤ most_calls }
-    ensures { result ≡ switch w }
-{
-    let mut x = w;
-    x.nomore = 1;
-    go_on(5, x)
-}
-
-// Phase 5: a woken process starts its call again, and another waits.
-fn await_wake(w: Words) -> Next
-    ensures { result ≡ await w }
-{
-    if w.wake == 1 {
-        let mut woken = w;
-        woken.wake = 0;
-        woken.phase = 0;
-        return Next::Moved(woken);
+    // Phase 1.
+    fn enlist(self) -> Words
+        ensures { result ≡ enlist self.words }
+    {
+        let listed = Words {
+            entry: 1,
+            ..self.words
+        };
+        to_phase(Phase::SecondTry, listed)
     }
-    Next::Idle
-}
 
-// What a turn of process p leaves of the words that it looks at, where its current call is of this kind, and its completed calls leave the mark old on that call's base.
-pub(crate) fn next(p: u16, kind: usize, old: Mark, w: Words) -> Next
-    requires { (w.count ≤ most_processes) × (w.call ≤ most_calls) }
-    ensures { result ≡ next p kind old w }
-{
-    let phase = w.phase;
-    match phase {
-        0 => start(p, kind, old, w),
-        1 => Next::Moved(enlist(w)),
-        2 => Next::Moved(retry(p, kind, w)),
-        3 => Next::Moved(delist(w)),
-        4 => Next::Moved(switch(w)),
-        5 => await_wake(w),
-        6 => Next::Moved(go_on(COMPLETE, w)),
-        _ => Next::Idle,
+    // Phase 2: the second try.
+    fn retry(self) -> Words
+        ensures { result ≡ retry self.process self.call.kind self.words }
+    {
+        if self.succeeds() {
+            return to_phase(Phase::Delist, self.taken());
+        }
+        if self.call.kind == Call::MODLOCK {
+            return to_phase(Phase::SetSwitch, self.words);
+        }
+        to_phase(Phase::Waiting, self.words)
+    }
+
+    // Phase 3.
+    fn delist(self) -> Words
+        ensures { result ≡ delist self.words }
+    {
+        let off = Words {
+            wake: 0,
+            entry: 0,
+            ..self.words
+        };
+        completed(off)
+    }
+
+    // Phase 4: the switch is set.
+    fn switch(self) -> Words
+        ensures { result ≡ switch self.words }
+    {
+        let switched = Words {
+            nomore: 1,
+            ..self.words
+        };
+        to_phase(Phase::Waiting, switched)
+    }
+
+    // Phase 5: a woken process starts its call again, and another waits.
+    fn await_wake(self) -> Option<Words>
+        ensures { result ≡ await self.words }
+    {
+        if self.words.wake != 1 {
+            return None;
+        }
+        let woken = Words {
+            wake: 0,
+            ..self.words
+        };
+        Some(to_phase(Phase::Start, woken))
     }
 }

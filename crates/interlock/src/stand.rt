@@ -1,67 +1,58 @@
-ghost use Rattle.std.specs.Prelude.{◌≡◌, ◌+◌, ◌≤◌};
+ghost use Rattle.std.specs.Prelude.{◌≡◌, ◌≤◌};
 ghost use Rattle.routine.specs.Routines.{routines};
 ghost use Rattle.rules.specs.Ready.{Ready};
-ghost use Rattle.rules.specs.Standing.{standing_of};
-ghost use Rattle.interlock.specs.Doing.{doing, at_most};
+ghost use Rattle.rules.specs.Standing.{standing_case};
+ghost use Rattle.interlock.specs.Doing.{doing};
 
-use routine::calls::calls_in;
+use routine::GoodFile;
+use rules::{Phase, Standing};
 use words::{call, phase, wake};
 
-// What a process is doing, from the least to the most: only one that moves would answer MOVED.
-const FINISHED: u8 = 0;
-
-const STOPPED: u8 = 1;
-
-const WAITS: u8 = 2;
-
-const MOVES: u8 = 3;
-
-// What process p is doing. Its own words decide.
-fn doing(file: &[u8], table: &[u16], p: usize) -> u8
-    requires { (Ready file.now table.now) × (1 ≤ p) × (p ≤ (routines file.now).N) }
-    ensures { result ≡ doing (routines file.now) table.now p }
-{
-    if call(table, p) == calls_in(file, p) {
-        return FINISHED;
-    }
-    let phase = phase(table, p);
-    if phase == 7 {
-        return STOPPED;
-    }
-    if phase != 5 {
-        return MOVES;
-    }
-    if wake(table, p) == 1 {
-        return MOVES;
-    }
-    WAITS
+// A good file and a table that is consistent with it.
+#[derive(Clone, Copy)]
+pub(crate) struct Checked<'a> {
+    pub(crate) file: GoodFile<'a>,
+    pub(crate) table: &'a [u16],
+    ghost ready: { Ready file.bytes.now table.now },
 }
 
-// Whether no process does more than this.
-fn at_most(file: &[u8], n: usize, table: &[u16], most: u8) -> bool
-    requires { (Ready file.now table.now) × (n ≡ (routines file.now).N) }
-    ensures { result ≡ at_most (routines file.now) table.now most }
-{
-    let mut p = 1;
-    while p <= n {
-        if doing(file, table, p) > most {
-            return false;
+// What a process is doing. Only one that moves would answer MOVED.
+#[derive(Clone, Copy)]
+enum Doing {
+    Finished,
+    Stopped,
+    Waits,
+    Moves,
+}
+
+impl Checked<'_> {
+    // What process p is doing. Its own words decide.
+    #[tactic(auto, using(routine::specs::Calls::calls_are), unfolding(crate::specs::Doing::doing, rules::specs::Standing::finished, rules::specs::Phase::phase_number))]
+    fn doing(self, p: usize) -> Doing
+        requires { (1 ≤ p) × (p ≤ (routines self.file.bytes.now).N) }
+        ensures { result ≡ doing (routines self.entry.file.bytes.now) self.entry.table.now p }
+    {
+        if call(self.table, p) == self.file.calls_in(p) {
+            return Doing::Finished;
         }
-        p += 1;
+        match Phase::try_from(phase(self.table, p)) {
+            Ok(Phase::Stopped) => Doing::Stopped,
+            Ok(Phase::Waiting) if wake(self.table, p) != 1 => Doing::Waits,
+            _ => Doing::Moves,
+        }
     }
-    true
-}
 
-// The standing of a table that was checked.
-pub(crate) fn stand(file: &[u8], n: usize, table: &[u16]) -> u8
-    requires { (Ready file.now table.now) × (n ≡ (routines file.now).N) }
-    ensures { result ≡ standing_of (routines file.now) table.now }
-{
-    if at_most(file, n, table, FINISHED) {
-        return 0;
+    pub(crate) fn stand(self) -> Standing
+        ensures { result ≡ standing_case (routines self.entry.file.bytes.now) self.entry.table.now }
+    {
+        let mut standing = Standing::Finished;
+        for p in 1..=self.file.processes() {
+            match self.doing(p) {
+                Doing::Moves => return Standing::Moving,
+                Doing::Finished => {}
+                Doing::Stopped | Doing::Waits => standing = Standing::Stuck,
+            }
+        }
+        standing
     }
-    if at_most(file, n, table, WAITS) {
-        return 2;
-    }
-    1
 }

@@ -1,38 +1,43 @@
-ghost use Rattle.std.specs.Prelude.{◌≡◌, ◌≤◌};
+ghost use Rattle.std.specs.Prelude.{◌≡◌, ◌≤◌, cond};
 ghost use Rattle.routine.specs.Routines.{routines};
 ghost use Rattle.rules.specs.Ready.{Ready};
 ghost use Rattle.rules.specs.Turn.{moves, turned};
+ghost use Rattle.rules.specs.declared.Answer.TheVariants as An;
 
-use crate::next::next;
+use crate::next::Turn;
 use crate::notify::notify;
 use consistency::held::follow;
-use routine::calls::call_at;
+use routine::GoodFile;
 use routine::holds::mark_in;
-use rules::Next;
+use rules::{Answer, Phase};
 use words::{call, put_words, words_at};
 
-// One turn of process p at a table that was checked, and whether it moved.
-pub(crate) fn step(file: &[u8], n: usize, table: &mut [u16], p: usize) -> bool
-    requires { (Ready file.now table.old) × (n ≡ (routines file.now).N) × (1 ≤ p) × (p ≤ n) }
-    ensures answer { result ≡ moves (routines file.now) table.old p }
-    ensures table { table.new ≡ turned (routines file.now) table.old p }
+// One turn of process p at a table that was checked.
+pub(crate) fn step(file: GoodFile<'_>, table: &mut [u16], p: usize) -> Answer
+    requires { Ready file.bytes.now table.old × (1 ≤ p) × (p ≤ (routines file.bytes.now).N) }
+    ensures answer { result ≡ cond (moves (routines file.entry.bytes.now) table.old p) An.Moved An.Idle }
+    ensures table { table.new ≡ turned (routines file.entry.bytes.now) table.old p }
 {
     let k = call(table, p);
-    let now = call_at(file, p, k);
-    // A finished process has no base to look at.
-    if now.kind == 0 {
-        return false;
-    }
-    let b = now.base;
-    let w = words_at(table, b, p);
-    let done = follow(file, p, k);
-    let row = done.row;
-    match next(p as u16, now.kind, mark_in(row, b), w) {
-        Next::Idle => false,
-        Next::Moved(x) => {
-            notify(file, n, table, b, w.phase);
-            put_words(table, b, p, x);
-            true
+    let Some(call) = file.call_at(p, k) else {
+        return Answer::Idle;
+    };
+    let row = follow(file.bytes(), p, k).unwrap();
+    let turn = Turn {
+        // At most 8, as is proved; try_from would test it again.
+        process: p as u16,
+        call,
+        mark: mark_in(row, call.base),
+        words: words_at(table, call.base, p),
+    };
+    match turn.next() {
+        None => Answer::Idle,
+        Some(words) => {
+            if turn.words.phase == u16::from(Phase::Notify) {
+                notify(file, table, call.base);
+            }
+            put_words(table, call.base, p, words);
+            Answer::Moved
         }
     }
 }

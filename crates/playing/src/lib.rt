@@ -1,7 +1,7 @@
 // The playing program: what it writes is a function of the bytes of `set.bin` and of `turns.bin`.
 #![tactic(auto)]
 
-ghost use Rattle.io.specs.Counts.{IsPrefixLen};
+ghost use Rattle.std.specs.Prelude.{◌≤◌, length};
 
 mod line;
 mod play;
@@ -20,22 +20,20 @@ const TURNS: usize = Set::TURNS + 1;
 // Room for the header, a line for each turn and the last line.
 const ROOM: usize = 25 + 50 * TURNS;
 
-// The bytes of a file at the start of the buffer, as many as fit; an absent file counts as empty.
-fn read_file(rt: &HostRuntime, path: &str, buffer: &mut [u8]) -> usize
-    ensures { IsPrefixLen result buffer.new }
+// The bytes of a file, as many as fit the buffer, at whose start they stand; an absent file counts as empty.
+fn read_file<'a>(rt: &HostRuntime, path: &str, buffer: &'a mut [u8]) -> &'a [u8]
+    ensures { length result.now ≤ length buffer.old }
 {
-    match File::open(rt, path) {
-        Ok(mut file) => read_full(&mut file, buffer),
-        Err(_) => 0,
-    }
+    let end = File::open(rt, path).map_or(0, |mut file| read_full(&mut file, buffer));
+    &buffer[..end]
 }
 
 pub fn run(rt: &HostRuntime) -> std::io::Result<()> {
     let mut set = [0; SET];
-    let n = read_file(rt, "set.bin", &mut set);
+    let set = read_file(rt, "set.bin", &mut set);
     let mut turns = [0; TURNS];
-    let m = read_file(rt, "turns.bin", &mut turns);
+    let turns = read_file(rt, "turns.bin", &mut turns);
     let mut out = [0; ROOM];
-    let end = put_play(&mut out, &set[..n], &turns[..m]);
+    let end = put_play(&mut out, set, turns);
     rt.stdout().write_all(&out[..end])
 }

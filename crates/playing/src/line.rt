@@ -1,73 +1,56 @@
-ghost use Rattle.std.specs.Prelude.{◌+◌, ◌<◌, ◌≤◌, length};
-ghost use Rattle.rules.specs.Table.{call, phase};
-ghost use Rattle.rules.specs.Answers.{standing};
-ghost use Rattle.text.specs.Wrote.{Wrote};
-ghost use Rattle.text.specs.Lines.{turn_line};
-ghost use Rattle.playing.specs.Play.{refusal_line, last_line, Played, line_room};
+ghost use Rattle.std.specs.Prelude.{◌≡◌, ◌≤◌, length};
+ghost use Rattle.rules.specs.Answers.{standing, turning, turned_table};
+ghost use Rattle.text.specs.Text.{Puts};
+ghost use Rattle.playing.specs.Play.{refusal_line, word, line_of, last_line, AnswerPut};
 
 use routine::Refusal;
+use routine::refusal::Shown;
 use rules::{Answer, Standing};
+use text::Text;
 use words::{call, phase};
 
-// The place after a turn's line, and whether the play goes on.
-#[derive(Clone, Copy)]
-pub(crate) struct Step {
-    pub(crate) at: usize,
-    pub(crate) on: bool,
-}
-
-pub(crate) fn put_refusal(out: &mut [u8], at: usize, refusal: Refusal) -> usize
-    requires { at + line_room ≤ length out.old }
-    ensures { Wrote out.old out.new at (refusal_line refusal) result }
+#[tactic(auto, unfolding(crate::specs::Play::refusal_line))]
+pub(crate) fn put_refusal(text: &mut Text<'_>, refusal: Refusal)
+    ensures { Puts text.old text.new (refusal_line refusal) }
 {
-    text::put_refused(out, at, refusal.number as usize, refusal.block)
+    let shown = Shown::from(refusal);
+    text.put_refused(usize::from(shown.number), shown.block);
 }
 
-// The line of a turn that was not refused.
-fn put_turn(out: &mut [u8], at: usize, i: usize, p: usize, table: &[u16], word: &[u8]) -> usize
-    requires { (at + line_room ≤ length out.old) × (p < 256) × (length word.now ≤ 5) }
-    ensures { Wrote out.old out.new at (turn_line i p (call table.now p) (phase table.now p) word.now) result × (result ≤ at + line_room) }
+#[tactic(auto, unfolding(crate::specs::Play::word))]
+fn word(answer: Answer) -> &'static [u8]
+    ensures { result.now ≡ word answer }
 {
-    let call = call(table, p);
-    let phase = phase(table, p);
-    text::put_turn(out, at, i, p, call, phase, word)
+    match answer {
+        Answer::Moved => b"MOVED",
+        Answer::Idle => b"IDLE",
+    }
 }
 
-// Plays turn i, by process p, and puts its line.
+// Plays turn i, by a process, and puts its line, unless it is refused.
 pub(crate) fn put_line(
-    out: &mut [u8],
-    at: usize,
+    text: &mut Text<'_>,
     i: usize,
-    p: usize,
+    process: u8,
     file: &[u8],
     table: &mut [u16],
-) -> Step
-    requires { (at + line_room ≤ length out.old) × (p < 256) }
-    ensures { Played file.now table.old i p table.new out.old at out.new result }
+) -> Result<(), Refusal>
+    ensures table { table.new ≡ turned_table file.now table.old process }
+    ensures line { AnswerPut text.old text.new (turning file.now table.old process) (line_of table.new i process) result }
 {
-    match interlock::turn(file, table, p) {
-        Answer::Refused(refusal) => Step {
-            at: put_refusal(out, at, refusal),
-            on: false,
-        },
-        Answer::Moved => Step {
-            at: put_turn(out, at, i, p, table, b"MOVED"),
-            on: true,
-        },
-        Answer::Idle => Step {
-            at: put_turn(out, at, i, p, table, b"IDLE"),
-            on: true,
-        },
-    }
+    let process = usize::from(process);
+    let answer = interlock::turn(file, table, process)?;
+    let call = call(table, process);
+    let phase = phase(table, process);
+    text.put_turn(i, process, call, phase, word(answer));
+    Ok(())
 }
 
-// The line that ends the play.
-pub(crate) fn put_last(out: &mut [u8], at: usize, file: &[u8], table: &[u16]) -> usize
-    requires { at + line_room ≤ length out.old }
-    ensures { Wrote out.old out.new at (last_line (standing file.now table.now)) result }
+// Puts the line that ends the play, unless the standing is refused.
+pub(crate) fn put_standing(text: &mut Text<'_>, file: &[u8], table: &[u16]) -> Result<(), Refusal>
+    ensures { AnswerPut text.old text.new (standing file.now table.now) last_line result }
 {
-    match interlock::standing(file, table) {
-        Standing::Is(number) => text::put_standing(out, at, number as usize),
-        Standing::Refused(refusal) => put_refusal(out, at, refusal),
-    }
+    let standing = interlock::standing(file, table)?;
+    text.put_standing(standing as usize);
+    Ok(())
 }

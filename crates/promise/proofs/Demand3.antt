@@ -4,18 +4,20 @@ use mathlib.Core.Bool.{cond}
 use mathlib.Core.List.{List}
 use Prim.Native.Nat.{ℕ, ◌≤◌}
 use native.Mathlib.Omega.{arith}
-use borrow.Author.Tests.{eq-eqb}
+use Rattle.std.specs.Prelude.{Option, Some, None, Ok}
+use Rattle.routine.specs.declared.refusal.Refusal.{Refusal}
+use Rattle.routine.specs.declared.refusal.Refusal.TheVariants as Rf
 use Rattle.routine.specs.Test.{is_within}
-use Rattle.routine.specs.Refusal.{none}
+use Rattle.routine.specs.Refusal.{numbers, shown, shown_first}
 use Rattle.routine.specs.Routines.{Routines, routines}
 use Rattle.routine.specs.Rules.{WellFormed, KeepsRules}
 use Rattle.routine.proofs.Passing.{passed}
 use Rattle.rules.specs.Table.{fresh}
 use Rattle.rules.specs.declared.Answer.TheVariants as An
-use Rattle.rules.specs.Answers.{table_refusal, turn_refusal, turning, turned_table}
+use Rattle.rules.specs.Answers.{table_refusal, turning, turned_table}
 use Rattle.rules.specs.Turn.{moves, turned}
 use Rattle.rules.proofs.Numbers.{answer_numbers_lem}
-use Rattle.rules.proofs.Orders.{due_none, due_nothing}
+use Rattle.rules.proofs.Orders.{due_none, due_nothing, turn_goes}
 use Rattle.rules.proofs.Sentences.{Consistent}
 use Rattle.promise.specs.Play.{play, moved_in, TurnsBy}
 use Rattle.promise.specs.Promise.{Promised, Promise, Demand3}
@@ -46,19 +48,32 @@ demand_3_rules S g js turns ts =
 
 -- over a file that the judge passes, the turns of a play are never refused and keep the promise
 pub demand_3 : Demand3
+unfolding numbers
 demand_3 f j turns ts =
     let g = passed f j in
     let t : List ℕ = play (routines f) fresh turns in
     let k = reached_kept (routines f) g.well_formed turns ts in
-    let free : table_refusal f t ≡ none = due_none f t g.not_refused k.size (reached_consistent (routines f) g.well_formed turns ts) in
+    let free : table_refusal f t ≡ None = due_none f t g.not_refused k.size (reached_consistent (routines f) g.well_formed turns ts) in
     record {
-      not_refused = λ p lo hi. ap (λ r. r.number) (answer_numbers_lem f t p ∙ due_nothing f t p (ap (λ r. r.number) free) (is_within 1 (routines f).N p lo hi));
+      not_refused = λ p lo hi. ap (λ a. (numbers a).number) (turn_goes f t p (due_nothing f t p free (is_within 1 (routines f).N p lo hi))).0;
       promised = demand_3_rules (routines f) g.well_formed g.keeps turns ts;
     }
 
+-- where the number shown is 0, nothing is refused
+none_shown : (o : Option Refusal) → (shown_first o).number ≡ 0 → o ≡ None
+unfolding shown_first shown
+none_shown None e = refl
+none_shown (Some Rf.Length) e = absurd (omega arith)
+none_shown (Some (Rf.Check block)) e = absurd (omega arith)
+none_shown (Some (Rf.Fields block)) e = absurd (omega arith)
+none_shown (Some (Rf.Routine block place)) e = absurd (omega arith)
+none_shown (Some Rf.Words) e = absurd (omega arith)
+none_shown (Some Rf.Table) e = absurd (omega arith)
+none_shown (Some Rf.Process) e = absurd (omega arith)
+none_shown (Some Rf.Turns) e = absurd (omega arith)
+
 -- so what the call answers and leaves at a table of the play is the play's next turn
 pub turn_called : (f turns : List ℕ) → Promise f turns → (p : ℕ) → 1 ≤ p → p ≤ (routines f).N
-    → (turning f (play (routines f) fresh turns) p ≡ cond (moves (routines f) (play (routines f) fresh turns) p) An.Moved An.Idle)
+    → (turning f (play (routines f) fresh turns) p ≡ Ok (cond (moves (routines f) (play (routines f) fresh turns) p) An.Moved An.Idle))
     × (turned_table f (play (routines f) fresh turns) p ≡ turned (routines f) (play (routines f) fresh turns) p)
-unfolding turning turned_table
-turn_called f turns k p lo hi = let z = eq-eqb (turn_refusal f (play (routines f) fresh turns) p).number 0 (ap (λ r. r.number) (sym (answer_numbers_lem f (play (routines f) fresh turns) p)) ∙ k.not_refused p lo hi) in (rw z refl, rw z refl)
+turn_called f turns k p lo hi = turn_goes f _ p (none_shown _ (ap (λ s. s.number) (sym (answer_numbers_lem f _ p)) ∙ k.not_refused p lo hi))

@@ -7,22 +7,17 @@ use Prim.Native.Nat.{ℕ, ◌+◌, ◌-◌, ◌≤◌}
 use native.Mathlib.Omega.{arith}
 use lib.Dec.{eqb, leb}
 use borrow.Author.Tests.{eqb-true, eqb-false, leb-true, leb-false}
+use Rattle.std.specs.Prelude.{Option, Some, is_some, unwrap_or}
 use Rattle.routine.specs.Test.{and, by_test, and_left, and_right}
 use Rattle.routine.specs.Routines.{modlock, readlock, unlock, decrease, free, modifies, reads, fine}
 use Rattle.routine.specs.Judging.{is_take}
 use Rattle.routine.proofs.Holding.{fine_take, fine_unlock, fine_decrease}
 use Rattle.rules.specs.declared.Words.{Words}
-use Rattle.rules.specs.declared.Next.{Next}
-use Rattle.rules.specs.declared.Next.TheVariants as Nx
-use Rattle.rules.specs.Turn.{with_base, with_marks, to_phase, completed, succeeds, taken, take, release, lessen, begin, start, enlist, retry, delist, switch, await, next, is_move}
+use Rattle.rules.specs.Turn.{with_base, with_marks, to_phase, completed, succeeds, taken, take, release, lessen, begin, start, enlist, retry, delist, switch, await, next}
 
--- 1 for a turn that moves, and the words after it
-unfoldable pub did_of : Next → ℕ
-did_of y = cond (is_move y) 1 0
-
-unfoldable pub words_left : Words → Next → Words
-words_left w (Nx.Moved v) = v
-words_left w Nx.Idle = w
+-- 1 for a turn that moves
+unfoldable pub did_of : Option Words → ℕ
+did_of y = cond (is_some y) 1 0
 
 -- w stands in phase ph; the turn did this, and left these words in v
 pub record Leaves (w : Words) (d : ℕ) (v : Words) (ph did l n c k ph' wk en : ℕ) : Type 0 where
@@ -71,12 +66,12 @@ unfolding and
 one_not a b e = by_test (eqb a 0) (λ f. let n = eqb-false b 0 (rw f at e) in omega arith) (λ f. let n = eqb-false a 0 f in omega arith)
 
 module _ (p kind old : ℕ) (w : Words) where
-  -- the turn leaves y along a line
-  abbrev Along : Next → Type 0
-  Along y = Line p kind old w (did_of y) (words_left w y)
+  -- the turn leaves y, or the words as they are, along a line
+  abbrev Along : Option Words → Type 0
+  Along y = Line p kind old w (did_of y) (unwrap_or y w)
 
-  take_line : w.phase ≡ 0 → modlock ≤ kind → kind ≤ readlock → old ≡ free → Along (Nx.Moved (take p kind w))
-  unfolding did_of words_left is_move take succeeds taken completed with_base to_phase
+  take_line : w.phase ≡ 0 → modlock ≤ kind → kind ≤ readlock → old ≡ free → Along (Some (take p kind w))
+  unfolding did_of take succeeds taken completed with_base to_phase
   take_line at l h f =
       by_test (eqb kind modlock)
       (λ m. by_test (and (eqb w.lock 0) (eqb w.count 0))
@@ -86,8 +81,8 @@ module _ (p kind old : ℕ) (w : Words) where
       (λ s. let z = both_zero w.lock w.nomore s in rw (m, s) (takes_readlock (omega arith) f z.0 z.1 (leaves w _ _ _ at)))
       (λ s. rw (m, s) (misses l h f (leaves w _ _ _ at))))
 
-  begin_line : w.phase ≡ 0 → modlock ≤ kind → kind ≤ decrease → fine kind old ≡ true → Along (Nx.Moved (begin p kind w))
-  unfolding did_of words_left is_move begin is_take release lessen completed with_base to_phase
+  begin_line : w.phase ≡ 0 → modlock ≤ kind → kind ≤ decrease → fine kind old ≡ true → Along (Some (begin p kind w))
+  unfolding did_of begin is_take release lessen completed with_base to_phase
   begin_line at l h f =
       by_test (leb kind readlock)
       (λ r. rw r (take_line at l (leb-true _ _ r) (eqb-true _ _ (sym (fine_take kind old (leb-true _ _ r)) ∙ f))))
@@ -99,15 +94,15 @@ module _ (p kind old : ℕ) (w : Words) where
       (λ s. let z = eqb-false (w.count - 1) 0 s in rw (r, e, s) (decreases k o (omega arith) (leaves w _ _ _ at)))))
 
   start_line : kind ≤ decrease → w.phase ≡ 0 → Along (start p kind old w)
-  unfolding did_of words_left is_move start to_phase
+  unfolding did_of start to_phase
   start_line h at =
       by_test (eqb kind 0) (λ k. rw k (finished (eqb-true _ _ k) (leaves w _ _ _ at)))
       (λ k. let n = eqb-false kind 0 k in by_test (fine kind old)
       (λ f. rw (k, f) (begin_line at (omega arith) h f))
       (λ f. rw (k, f) (errs n f (leaves w _ _ _ at))))
 
-  retry_line : w.phase ≡ 2 → Along (Nx.Moved (retry p kind w))
-  unfolding did_of words_left is_move retry succeeds taken with_base to_phase
+  retry_line : w.phase ≡ 2 → Along (Some (retry p kind w))
+  unfolding did_of retry succeeds taken with_base to_phase
   retry_line at =
       by_test (eqb kind modlock)
       (λ m. by_test (and (eqb w.lock 0) (eqb w.count 0))
@@ -118,12 +113,12 @@ module _ (p kind old : ℕ) (w : Words) where
       (λ s. rw (m, s) (remisses_readlock (eqb-false _ _ m) (one_not _ _ s) (leaves w _ _ _ at))))
 
   await_line : w.phase ≡ 5 → Along (await w)
-  unfolding did_of words_left is_move await with_marks to_phase
+  unfolding did_of await with_marks to_phase
   await_line at = by_test (eqb w.wake 1) (λ k. rw k (wakes (eqb-true _ _ k) (leaves w _ _ _ at))) (λ k. rw k (waiting (eqb-false _ _ k) (leaves w _ _ _ at)))
 
   -- every turn follows a line, where the kind is one of the four or 0
   pub line : kind ≤ decrease → Along (next p kind old w)
-  unfolding did_of words_left is_move next enlist delist switch completed with_base with_marks to_phase
+  unfolding did_of next enlist delist switch completed with_base with_marks to_phase
   line h =
       by_test (eqb w.phase 0) (λ e. rw e (start_line h (eqb-true _ _ e)))
       (λ n0. by_test (eqb w.phase 1) (λ e. rw (n0, e) (enlists (leaves w _ _ _ (eqb-true _ _ e))))

@@ -6,15 +6,15 @@ use mathlib.Core.List.{List, [], ◌∷◌}
 use Prim.Native.Nat.{ℕ, ◌≤◌}
 use native.Mathlib.Omega.{arith}
 use lib.ListN.{length}
+use Rattle.std.specs.Prelude.{Option, Some, None, is_some}
 use Rattle.routine.specs.Test.{by_test, clash}
 use Rattle.routine.specs.Limits.{table_words}
 use Rattle.routine.specs.Routines.{Routines, kind_now, base_now}
 use Rattle.routine.specs.Rules.{WellFormed}
 use Rattle.routine.proofs.Holding.{no_call}
 use Rattle.rules.specs.Table.{call, phase, wake, words_at}
-use Rattle.rules.specs.declared.Next.{Next}
-use Rattle.rules.specs.declared.Next.TheVariants as Nx
-use Rattle.rules.specs.Turn.{next_at, settle, turned, is_move, moves}
+use Rattle.rules.specs.declared.Words.{Words}
+use Rattle.rules.specs.Turn.{next_at, settle, turned, moves}
 use Rattle.rules.proofs.Sentences.{Consistent}
 use Rattle.rules.proofs.Bounds.{wake_small}
 use Rattle.promise.specs.Play.{play, one_if_moves}
@@ -35,9 +35,9 @@ pub idle_same : (S : Routines) (t : List ℕ) (p : ℕ) → moves S t p ≡ fals
 unfolding turned moves
 idle_same S t p e = go (next_at S t p) e
   where
-    go : (y : Next) → is_move y ≡ false → settle S t p y ≡ t
-    go (Nx.Moved w) e = unfold is_move in absurd (clash refl e)
-    go Nx.Idle e = unfold settle in refl
+    go : (y : Option Words) → is_some y ≡ false → settle S t p y ≡ t
+    go (Some w) e = absurd (clash refl e)
+    go None e = unfold settle in refl
 
 -- why a process would answer IDLE
 pub data IdleBecause (S : Routines) (t : List ℕ) (p : ℕ) : Type 0 where

@@ -13,7 +13,7 @@ use Rattle.routine.specs.Routines.{Routines, routines, free, modifies}
 use Rattle.rules.specs.Table.{fresh}
 use Rattle.rules.specs.Consistent.{held}
 use Rattle.rules.specs.Turn.{next, next_at, turned, moves}
-use Rattle.rules.specs.Standing.{nobody_moves, standing_of}
+use Rattle.rules.specs.Standing.{nobody_moves, standing_case, standing_of}
 use Rattle.promise.specs.Play.{play, moved_in, TurnsBy, no_turn, a_turn, by_processes}
 use Rattle.promise.specs.Promise.{Promised}
 use Rattle.promise.specs.Slips.{interlock, play_of, standing_in, Harm, stuck, alone, crowded, Harmful, no_slip, NoHarm, leaving, slipping}
@@ -32,7 +32,7 @@ play_same S t [] = refl
 play_same S t (p ∷ ps) = play_same S (turned S t p) ps
 
 pub standing_same : (S : Routines) (t : List ℕ) → standing_in interlock S t ≡ standing_of S t
-unfolding standing_in interlock standing_of nobody_moves
+unfolding standing_in interlock standing_of standing_case nobody_moves
 standing_same S t = refl
 
 -- a machine that slips nowhere is the interlock

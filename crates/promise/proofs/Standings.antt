@@ -11,7 +11,7 @@ use Rattle.routine.specs.Routines.{Routines}
 use Rattle.routine.proofs.Sums.{Some}
 use Rattle.rules.specs.Table.{call}
 use Rattle.rules.specs.Turn.{moves}
-use Rattle.rules.specs.Standing.{finished, all_finished, nobody_moves, standing_of}
+use Rattle.rules.specs.Standing.{finished, all_finished, nobody_moves, standing_case, standing_number, standing_of}
 
 abbrev pub AllFinished : Routines → List ℕ → Type 0
 AllFinished S t = (p : ℕ) → 1 ≤ p → p ≤ S.N → call t p ≡ S.calls p
@@ -45,55 +45,39 @@ module _ (S : Routines) (t : List ℕ) where
 
   -- each standing follows from its meaning, by the two tests that decide it
   pub standing_finished : AllFinished S t → standing_of S t ≡ 0
-  unfolding standing_of
+  unfolding standing_of standing_case standing_number
   standing_finished f = rw (is_all_finished f) refl
 
   pub standing_moving : (AllFinished S t → ⊥) → Some S.N (λ p. moves S t p ≡ true) → standing_of S t ≡ 1
-  unfolding standing_of
+  unfolding standing_of standing_case standing_number
   standing_moving n r =
       by_test (all_finished S t) (λ a. absurd (n (all_finished_lem a)))
       (λ a. by_test (nobody_moves S t) (λ b. absurd (clash r.holds (nobody_moves_lem b r.at r.low r.high))) (λ b. rw (a, b) refl))
 
   pub standing_stuck : (AllFinished S t → ⊥) → NobodyMoves S t → standing_of S t ≡ 2
-  unfolding standing_of
+  unfolding standing_of standing_case standing_number
   standing_stuck n f = by_test (all_finished S t) (λ a. absurd (n (all_finished_lem a))) (λ a. rw (a, is_nobody_moves f) refl)
 
   -- and its meaning from it, since the three exclude each other
   pub finished_standing : standing_of S t ≡ 0 → AllFinished S t
-  unfolding standing_of
   finished_standing e =
       by_test (all_finished S t) all_finished_lem
-      (λ a. by_test (nobody_moves S t) (λ b. absurd (two a b)) (λ b. absurd (one a b)))
-    where
-      two : all_finished S t ≡ false → nobody_moves S t ≡ true → ⊥
-      two a b = let z : ◌≡◌ {A = ℕ} 2 0 = rw (a, b) at e in omega arith
-
-      one : all_finished S t ≡ false → nobody_moves S t ≡ false → ⊥
-      one a b = let z : ◌≡◌ {A = ℕ} 1 0 = rw (a, b) at e in omega arith
+      (λ a. let n : AllFinished S t → ⊥ = λ f. clash (is_all_finished f) a in
+      by_test (nobody_moves S t) (λ b. absurd (omega (arith, standing_stuck n (nobody_moves_lem b)))) (λ b. absurd (omega (arith, standing_moving n (somebody_moves b)))))
 
   pub moving_standing : standing_of S t ≡ 1 → (AllFinished S t → ⊥) × Some S.N (λ p. moves S t p ≡ true)
-  moving_standing e = (
-    λ f. omega (arith, standing_finished f),
-    by_test (nobody_moves S t)
-        (λ b. absurd (not_two b))
-        somebody_moves,
-  )
-    where
-      not_two : nobody_moves S t ≡ true → ⊥
-      not_two b = omega (arith, standing_stuck (λ f. omega (arith, standing_finished f)) (nobody_moves_lem b))
+  moving_standing e =
+      let n : AllFinished S t → ⊥ = λ f. omega (arith, standing_finished f) in
+      (n, by_test (nobody_moves S t) (λ b. absurd (omega (arith, standing_stuck n (nobody_moves_lem b)))) somebody_moves)
 
   pub stuck_standing : standing_of S t ≡ 2 → (AllFinished S t → ⊥) × NobodyMoves S t
-  stuck_standing e = (
-    λ f. omega (arith, standing_finished f),
-    by_test (nobody_moves S t) nobody_moves_lem (λ b. absurd (not_one b)),
-  )
-    where
-      not_one : nobody_moves S t ≡ false → ⊥
-      not_one b = omega (arith, standing_moving (λ f. omega (arith, standing_finished f)) (somebody_moves b))
+  stuck_standing e =
+      let n : AllFinished S t → ⊥ = λ f. omega (arith, standing_finished f) in
+      (n, by_test (nobody_moves S t) nobody_moves_lem (λ b. absurd (omega (arith, standing_moving n (somebody_moves b)))))
 
   -- there is no other standing
   pub standing_small : standing_of S t ≤ 2
-  unfolding standing_of
+  unfolding standing_of standing_case standing_number
   standing_small =
       by_test (all_finished S t) (λ a. rw a (omega arith))
       (λ a. by_test (nobody_moves S t) (λ b. rw (a, b) (omega arith)) (λ b. rw (a, b) (omega arith)))

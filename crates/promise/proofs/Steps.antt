@@ -9,6 +9,7 @@ use native.Mathlib.Decide.{ℕ_discrete, dec_le}
 use lib.ListN.{length}
 use lib.Dec.{eqb}
 use borrow.Author.Tests.{eqb-true, eqb-false, eq-eqb}
+use Rattle.std.specs.Prelude.{Option, Some, None, is_some, unwrap_or}
 use Rattle.routine.specs.Test.{by_test, clash, both, and_left, and_right}
 use Rattle.routine.specs.Limits.{most_processes, most_bases, table_words}
 use Rattle.routine.specs.Routines.{Routines, decrease, kind_now, base_now}
@@ -17,11 +18,9 @@ use Rattle.routine.proofs.Holding.{kind_now_high}
 use Rattle.rules.specs.declared.Words.{Words}
 use Rattle.rules.specs.Table.{lock, nomore, count, call, phase, wake, entry, words_at, put_base, put_marks, put_process, put_words, BasePut, base_put, marks_put, ProcessPut, process_put}
 use Rattle.rules.specs.Consistent.{mark_now}
-use Rattle.rules.specs.declared.Next.{Next}
-use Rattle.rules.specs.declared.Next.TheVariants as Nx
-use Rattle.rules.specs.Turn.{waits, notified, next_at, settle, turned, is_move, moves}
+use Rattle.rules.specs.Turn.{waits, notified, next_at, settle, turned, moves}
 use Rattle.promise.specs.Play.{one_if_moves}
-use Rattle.promise.proofs.Lines.{did_of, words_left, Line, line, Rest, rest_finished, rest_waiting, rest_stopped, line_rests}
+use Rattle.promise.proofs.Lines.{did_of, Line, line, Rest, rest_finished, rest_waiting, rest_stopped, line_rests}
 
 -- what a turn of p at base b does to the marks of another process q
 pub data MarksLine (S : Routines) (p b : ℕ) (t u : List ℕ) (q : ℕ) : Type 0 where
@@ -159,7 +158,7 @@ module _ (S : Routines) (g : WellFormed S) (p : ℕ) (t : List ℕ) (len : lengt
   Mine b d v = Line p (kind_now S p (call t p)) (mark_now S p (call t p)) (words_at t b p) d v
 
   -- the line that a turn follows
-  pub turn_line : Line p (kind_now S p (call t p)) (mark_now S p (call t p)) (words_at t (base_now S p (call t p)) p) (one_if_moves S t p) (words_left (words_at t (base_now S p (call t p)) p) (next_at S t p))
+  pub turn_line : Line p (kind_now S p (call t p)) (mark_now S p (call t p)) (words_at t (base_now S p (call t p)) p) (one_if_moves S t p) (unwrap_or (next_at S t p) (words_at t (base_now S p (call t p)) p))
   unfolding next_at one_if_moves moves did_of
   turn_line = line p (kind_now S p (call t p)) (mark_now S p (call t p)) (words_at t (base_now S p (call t p)) p) kind_high
 
@@ -186,19 +185,19 @@ module _ (S : Routines) (g : WellFormed S) (p : ℕ) (t : List ℕ) (len : lengt
       }
 
   module _ (fits : moves S t p ≡ true → (1 ≤ base_now S p (call t p)) × (base_now S p (call t p) ≤ most_bases)) where
-    settled : (y : Next) → next_at S t p ≡ y → Step S p (base_now S p (call t p)) t (settle S t p y) (did_of y)
-    unfolding settle did_of is_move moves next_at words_left words_at
-    settled (Nx.Moved y) e =
+    settled : (y : Option Words) → next_at S t p ≡ y → Step S p (base_now S p (call t p)) t (settle S t p y) (did_of y)
+    unfolding settle did_of moves next_at words_at
+    settled (Some y) e =
         let b : ℕ = base_now S p (call t p) in
-        let fit = fits (ap is_move e) in
-        let ln : Mine b 1 y = subst (λ z. Mine b (did_of z) (words_left (words_at t b p) z)) e (line p (kind_now S p (call t p)) (mark_now S p (call t p)) (words_at t b p) kind_high) in
+        let fit = fits (ap is_some e) in
+        let ln : Mine b 1 y = subst (λ z. Mine b (did_of z) (unwrap_or z (words_at t b p))) e (line p (kind_now S p (call t p)) (mark_now S p (call t p)) (words_at t b p) kind_high) in
         by_test (eqb (phase t p) 6)
         (λ six. let o = notified_is S b S.N t len g.few_processes in
         rw six (wrote b (notified S b t S.N) y refl fit.0 fit.1 o.rest (λ q lo ne. notified_marks o (eqb-true _ _ six) q lo) ln))
         (λ six. rw six (wrote b t y refl fit.0 fit.1 (same_marks t) (λ q lo ne. kept (λ f. absurd (eqb-false _ _ six f)) refl refl) ln))
-    settled Nx.Idle e =
+    settled None e =
         let b : ℕ = base_now S p (call t p) in
-        let ln : Mine b 0 (words_at t b p) = subst (λ z. Mine b (did_of z) (words_left (words_at t b p) z)) e (line p (kind_now S p (call t p)) (mark_now S p (call t p)) (words_at t b p) kind_high) in
+        let ln : Mine b 0 (words_at t b p) = subst (λ z. Mine b (did_of z) (unwrap_or z (words_at t b p))) e (line p (kind_now S p (call t p)) (mark_now S p (call t p)) (words_at t b p) kind_high) in
         let n6 : phase t p ≢ 6 = rest_not_notifying (line_rests ln (omega arith)).why in
         record {
           at_base = refl;

@@ -1,11 +1,11 @@
 -- Demand 3: "for every file that the judge passes and every order of turns: no logic error, a modifier is alone, never stuck, at most (5N + 1) × R moves".
-use Rattle.std.specs.Prelude.{◌≡◌, ◌≢◌, List, ℕ, ◌+◌, ◌*◌, ◌≤◌}
-use Rattle.routine.specs.declared.Verdict.TheVariants.{Passes}
+use Rattle.std.specs.Prelude.{◌≡◌, ◌≢◌, List, ℕ, ◌+◌, ◌*◌, ◌≤◌, Ok}
 use Rattle.routine.specs.Routines.{Routines, routines, free, modifies}
+use Rattle.routine.specs.Refusal.{numbers}
 use Rattle.routine.specs.Judging.{judging}
 use Rattle.rules.specs.Table.{lock, count, call, phase, fresh}
 use Rattle.rules.specs.Consistent.{held}
-use Rattle.rules.specs.Answers.{turning, answer_numbers}
+use Rattle.rules.specs.Answers.{turning}
 use Rattle.rules.specs.Standing.{standing_of}
 use Rattle.promise.specs.Play.{play, moved_in, TurnsBy, releases}
 
@@ -29,9 +29,9 @@ pub record Promised (S : Routines) (t : List ℕ) (m : ℕ) : Type 0 where
 -- what holds after these turns over the file f, which may be any turns by 1 to N: so it holds after each turn of every play
 pub record Promise (f turns : List ℕ) : Type 0 where
   -- no next turn is refused
-  pub not_refused : (p : ℕ) → 1 ≤ p → p ≤ (routines f).N → (answer_numbers (turning f (play (routines f) fresh turns) p)).number ≡ 0
+  pub not_refused : (p : ℕ) → 1 ≤ p → p ≤ (routines f).N → (numbers (turning f (play (routines f) fresh turns) p)).number ≡ 0
   pub promised : Promised (routines f) (play (routines f) fresh turns) (moved_in (routines f) fresh turns)
 
 -- demand 3
 abbrev pub Demand3 : Type 0
-Demand3 = (f : List ℕ) → judging f ≡ Passes → (turns : List ℕ) → TurnsBy (routines f).N turns → Promise f turns
+Demand3 = (f : List ℕ) → judging f ≡ Ok tt → (turns : List ℕ) → TurnsBy (routines f).N turns → Promise f turns

@@ -1,20 +1,18 @@
 -- Why the rules are as they are: with a slip in one of them, some file is passed and has turns that end in harm.
 -- A slip is written over the interlock, or over the judge, and their own definitions know nothing of it.
-use Rattle.std.specs.Prelude.{◌≡◌, Bool, true, cond, not, ◌||◌, List, [], ◌∷◌, ℕ, zero, suc, ◌+◌, eqb, ltb}
-use Rattle.routine.specs.declared.Verdict.{Verdict}
-use Rattle.routine.specs.declared.Verdict.TheVariants.{Passes}
+use Rattle.std.specs.Prelude.{◌≡◌, Bool, true, cond, not, ◌||◌, List, [], ◌∷◌, ℕ, zero, suc, ◌+◌, eqb, ltb, ⊤, Option, Some, is_some, is_none, option_map, Result, Ok}
+use Rattle.routine.specs.declared.refusal.Refusal.{Refusal}
 use Rattle.routine.specs.Test.{and, implies}
 use Rattle.routine.specs.First.{first_in, every}
 use Rattle.routine.specs.Routines.{Routines, routines, kind_now, base_now, modlock, unlock, free, modifies, hold}
 use Rattle.routine.specs.Reading.{file_refusal}
 use Rattle.routine.specs.Judging.{is_take, place_good, judging}
 use Rattle.rules.specs.declared.Words.{Words}
-use Rattle.rules.specs.declared.Next.{Next}
-use Rattle.rules.specs.declared.Next.TheVariants as Nx
+use Rattle.rules.specs.declared.Standing.TheVariants as St
 use Rattle.rules.specs.Table.{call, phase, words_at, put_words, fresh}
 use Rattle.rules.specs.Consistent.{mark_now, held}
-use Rattle.rules.specs.Turn.{with_base, to_phase, completed, succeeds, taken, enlist, next, waits, notified, settle, turned, is_move, moves}
-use Rattle.rules.specs.Standing.{all_finished}
+use Rattle.rules.specs.Turn.{with_base, to_phase, completed, succeeds, taken, enlist, next, waits, notified, settle, turned, moves}
+use Rattle.rules.specs.Standing.{all_finished, standing_number}
 use Rattle.promise.specs.Play.{by_processes}
 use Rattle.promise.specs.Files.{modifier_reader, modifiers_reader, modifiers_then_reader, ring}
 
@@ -34,7 +32,7 @@ play_of M S t [] = t
 play_of M S t (p ∷ ps) = play_of M S (M.after S t p) ps
 
 unfoldable pub standing_in : Machine → Routines → List ℕ → ℕ
-standing_in M S t = cond (all_finished S t) 0 (cond (every (λ p. not (M.able S t p)) 1 (S.N + 1)) 2 1)
+standing_in M S t = standing_number (cond (all_finished S t) St.Finished (cond (every (λ p. not (M.able S t p)) 1 (S.N + 1)) St.Stuck St.Moving))
 
 -- ---- harms
 
@@ -58,7 +56,7 @@ crowded M S t = not (every (λ b. every (λ p. every (alone S t b p) 1 (S.N + 1)
 
 -- a judge and a machine, one of them slipped, and the file and the turns with which they come to harm
 pub record Slip : Type 0 where
-  pub judge : List ℕ → Verdict
+  pub judge : List ℕ → Result ⊤ Refusal
   pub machine : Machine
   pub file : List ℕ
   pub turns : List ℕ
@@ -66,7 +64,7 @@ pub record Slip : Type 0 where
 
 -- the file is passed, the turns are by its processes, and they end in the harm
 pub record Harmful (s : Slip) : Type 0 where
-  pub passed : s.judge s.file ≡ Passes
+  pub passed : s.judge s.file ≡ Ok tt
   pub turns_by : by_processes (routines s.file).N s.turns ≡ true
   pub harmed : s.harm s.machine (routines s.file) (play_of s.machine (routines s.file) fresh s.turns) ≡ true
 
@@ -88,25 +86,20 @@ pub record NoHarm (f turns : List ℕ) : Type 0 where
 
 -- what `next` says, from the process, the kind of its call, the mark on its base, and the words
 abbrev pub Rule : Type 0
-Rule = ℕ → ℕ → ℕ → Words → Next
+Rule = ℕ → ℕ → ℕ → Words → Option Words
 
-unfoldable pub leaving : Rule → Routines → List ℕ → ℕ → Next
+unfoldable pub leaving : Rule → Routines → List ℕ → ℕ → Option Words
 leaving n S t p = n p (kind_now S p (call t p)) (mark_now S p (call t p)) (words_at t (base_now S p (call t p)) p)
 
 -- the interlock with n in the place of `next`
 unfoldable pub slipping : Rule → Machine
-slipping n = record { after = λ S t p. settle S t p (leaving n S t p); able = λ S t p. is_move (leaving n S t p) }
-
--- the same, but for this change to what a move leaves
-unfoldable pub but : (Words → Words) → Next → Next
-but f (Nx.Moved w) = Nx.Moved (f w)
-but f Nx.Idle = Nx.Idle
+slipping n = record { after = λ S t p. settle S t p (leaving n S t p); able = λ S t p. is_some (leaving n S t p) }
 
 -- ---- the slips, one by one
 
 -- "unlock that leaves NOMORE on: after two modifiers no reader enters again"
 unfoldable pub leaves_switch : Rule
-leaves_switch p kind old w = cond (eqb kind unlock) (but (λ x. with_base x.lock w.nomore x.count x) (next p kind old w)) (next p kind old w)
+leaves_switch p kind old w = cond (eqb kind unlock) (option_map (λ x. with_base x.lock w.nomore x.count x) (next p kind old w)) (next p kind old w)
 
 -- 1 takes the base; 2 misses it, enlists and misses again; 1 unlocks and notifies; 2 sets the switch, wakes, takes the base, unlocks it and leaves the switch on; 3 waits to read a free base
 unfoldable pub switch_left : Slip
@@ -124,7 +117,7 @@ enlist_and_wait kind w = to_phase (cond (eqb kind modlock) 4 5) (enlist w)
 
 -- "A wait after one try .. the wakeup falls between": between the try and enlisting
 unfoldable pub waits_at_once : Rule
-waits_at_once p kind old w = cond (eqb w.phase 1) (Nx.Moved (enlist_and_wait kind w)) (next p kind old w)
+waits_at_once p kind old w = cond (eqb w.phase 1) (Some (enlist_and_wait kind w)) (next p kind old w)
 
 -- 1 takes the base; 2 misses it; 1 unlocks and notifies nobody; 2 enlists and waits
 unfoldable pub one_try : Slip
@@ -139,8 +132,8 @@ one_try = record {
 -- "or the second try before enlisting": the wakeup falls between that try and enlisting
 unfoldable pub tries_first : Rule
 tries_first p kind old w =
-    cond (eqb w.phase 1) (Nx.Moved (cond (succeeds kind w) (to_phase 3 (taken p kind w)) (to_phase 2 w)))
-    (cond (eqb w.phase 2) (Nx.Moved (enlist_and_wait kind w))
+    cond (eqb w.phase 1) (Some (cond (succeeds kind w) (to_phase 3 (taken p kind w)) (to_phase 2 w)))
+    (cond (eqb w.phase 2) (Some (enlist_and_wait kind w))
     (next p kind old w))
 
 -- 1 takes the base; 2 misses it twice; 1 unlocks and notifies nobody; 2 enlists and waits
@@ -156,7 +149,7 @@ tries_too_soon = record {
 -- "modlock that tests LOCK and forgets COUNT": it goes on as if COUNT were 0
 unfoldable pub forgets_count : Rule
 forgets_count p kind old w =
-    cond (eqb kind modlock) (but (λ x. with_base x.lock x.nomore w.count x) (next p kind old (with_base w.lock w.nomore 0 w))) (next p kind old w)
+    cond (eqb kind modlock) (option_map (λ x. with_base x.lock x.nomore w.count x) (next p kind old (with_base w.lock w.nomore 0 w))) (next p kind old w)
 
 -- 2 reads, and 1 modifies
 unfoldable pub count_forgotten : Slip
@@ -191,7 +184,7 @@ only_first_woken = record {
 
 -- notify only if the switch was on: "otherwise a waiting reader with the switch off sleeps on"
 unfoldable pub notifies_if_on : Rule
-notifies_if_on p kind old w = cond (eqb w.nomore 0) (but (λ x. cond (eqb x.phase 6) (completed x) x) (next p kind old w)) (next p kind old w)
+notifies_if_on p kind old w = cond (eqb w.nomore 0) (option_map (λ x. cond (eqb x.phase 6) (completed x) x) (next p kind old w)) (next p kind old w)
 
 -- 1 takes the base; 2 misses it, enlists, misses again and waits; 1 unlocks, and nobody is notified
 unfoldable pub not_notified : Slip
@@ -215,8 +208,8 @@ place_by_last S p k = cond (and (ltb k (S.calls p)) (is_take (S.kind p k))) (imp
 unfoldable pub passes_by_last : Routines → Bool
 passes_by_last S = every (λ p. every (place_by_last S p) 0 (S.calls p + 1)) 1 (S.N + 1)
 
-unfoldable pub judge_by_last : List ℕ → Verdict
-judge_by_last f = cond (and (eqb (file_refusal f).number 0) (passes_by_last (routines f))) Passes (judging f)
+unfoldable pub judge_by_last : List ℕ → Result ⊤ Refusal
+judge_by_last f = cond (and (is_none (file_refusal f)) (passes_by_last (routines f))) (Ok tt) (judging f)
 
 -- 1 takes base 2, takes base 3 and gives it up; 2 takes base 1; 1 waits for base 1, and 2 for base 2
 unfoldable pub ring_passed : Slip

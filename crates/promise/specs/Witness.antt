@@ -1,6 +1,5 @@
 -- Demand 3 is not empty: a file that passes, and a play of it in which processes wait, are woken, and all finish.
-use Rattle.std.specs.Prelude.{◌≡◌, true, false, List, [], ◌∷◌, ◌++◌, ℕ}
-use Rattle.routine.specs.declared.Verdict.TheVariants.{Passes}
+use Rattle.std.specs.Prelude.{◌≡◌, true, false, List, [], ◌∷◌, ◌++◌, ℕ, Ok}
 use Rattle.routine.specs.Routines.{routines}
 use Rattle.routine.specs.Judging.{judging}
 use Rattle.rules.specs.Table.{nomore, phase, wake, entry, fresh}
@@ -28,7 +27,7 @@ pub record Asleep (f turns : List ℕ) (p : ℕ) : Type 0 where
 
 -- f passes, and these turns over it are a play with contention that ends
 pub record Contended (f : List ℕ) : Type 0 where
-  pub passes : judging f ≡ Passes
+  pub passes : judging f ≡ Ok tt
   pub turns_by : by_processes (routines f).N to_end ≡ true
   pub modifier_waits : Asleep f to_sleep 3
   pub reader_waits : Asleep f to_sleep 2

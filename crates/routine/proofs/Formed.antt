@@ -1,5 +1,5 @@
 -- A file that is not refused says what is well formed.
-use mathlib.Core.Path.{◌≡◌, ap}
+use mathlib.Core.Path.{◌≡◌, sym, ◌∙◌}
 use mathlib.Core.Bool.{true}
 use mathlib.Core.List.{List}
 use Prim.Native.Nat.{ℕ, ◌+◌, ◌*◌, ◌%◌, ◌≤◌, ◌<◌}
@@ -7,10 +7,12 @@ use native.Mathlib.Omega.{arith}
 use lib.Dec.{eqb, lit<}
 use lib.ListN.{length}
 use borrow.Author.Tests.{eqb-true, leb-true, eq-eqb, ne_eqb, lt-ltb}
+use Rattle.std.specs.Prelude.{None}
 use Rattle.routine.specs.Limits.{most_bases, most_calls, head_bytes, checked_bytes}
 use Rattle.routine.specs.Test.{and_left, and_right, within_is}
 use Rattle.routine.specs.First.{first_before}
-use Rattle.routine.specs.Block.{block, byte, call_byte_good, byte_good, bad_byte}
+use Rattle.routine.specs.Block.{block, byte, call_byte_good, byte_good, bad_byte, fields_right}
+use Rattle.routine.specs.Refusal.{some_none}
 use Rattle.routine.specs.Routines.{routines}
 use Rattle.routine.specs.Rules.{WellFormed}
 use Rattle.routine.specs.Reading.{length_good, fields_good, file_refusal}
@@ -46,7 +48,7 @@ module _ (n b p : ℕ) (s : List ℕ) (none_bad : (i : ℕ) → i < checked_byte
 
 module _ (f : List ℕ) (l : length_good (length f) ≡ true) (good : AllGood (fields_good f) (routines f).N) where
   none_bad : (p : ℕ) → 1 ≤ p → p ≤ (routines f).N → (i : ℕ) → i < checked_bytes → byte_good (routines f).N (routines f).B p (block f p) i ≡ true
-  unfolding fields_good bad_byte
+  unfolding fields_good fields_right bad_byte
   none_bad p lo hi i h =
       first_before (byte_good (routines f).N (routines f).B p (block f p)) 0 checked_bytes i (omega arith)
       (omega (arith, eqb-true (bad_byte (routines f).N (routines f).B p (block f p)) checked_bytes (good p lo hi)))
@@ -81,11 +83,11 @@ whole_blocks : (f : List ℕ) → length_good (length f) ≡ true → length f �
 unfolding routines
 whole_blocks f l = let m = length_means (length f) l in omega arith
 
-pub not_refused : (f : List ℕ) → (file_refusal f).number ≡ 0 → Read f
+pub not_refused : (f : List ℕ) → file_refusal f ≡ None → Read f
 not_refused f z = go (outcome f)
   where
     go : Outcome f → Read f
-    go (bad_length l e) = absurd (omega (arith, ap (λ r. r.number) e))
-    go (bad_check p l b e) = absurd (omega (arith, ap (λ r. r.number) e))
-    go (bad_field p l a b e) = absurd (omega (arith, ap (λ r. r.number) e))
+    go (bad_length l e) = absurd (some_none _ (sym e ∙ z))
+    go (bad_check p l b e) = absurd (some_none _ (sym e ∙ z))
+    go (bad_field p l a b e) = absurd (some_none _ (sym e ∙ z))
     go (all_good l a b e) = record { whole = whole_blocks f l; well_formed = formed f l b }

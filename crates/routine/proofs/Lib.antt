@@ -1,3 +1,4 @@
+pub mod Blocks
 pub mod Walking
 pub mod Refused
 pub mod Formed

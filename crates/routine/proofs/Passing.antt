@@ -1,19 +1,19 @@
 -- The judge passes exactly the well-formed files that keep the rules, and what else holds of such a file.
 use mathlib.Core.Path.{◌≡◌, sym, ap, ◌∙◌}
 use mathlib.Core.Logic.{◌≢◌}
-use mathlib.Core.Bool.{true, cond, not}
+use mathlib.Core.Bool.{true, not}
 use mathlib.Core.List.{List, [], ◌∷◌}
 use Prim.Native.Nat.{ℕ, ◌+◌, ◌≤◌, ◌<◌}
 use native.Mathlib.Omega.{arith}
-use native.Mathlib.Decide.{ℕ_discrete, dec_le}
+use native.Mathlib.Decide.{dec_le}
 use lib.Dec.{eqb, ltb}
 use borrow.Author.Tests.{eqb-true, ltb-true, eq-eqb, ne_eqb, lt-ltb, le-leb, lt-leb}
+use Rattle.std.specs.Prelude.{Some, None, Ok, Err}
 use Rattle.routine.specs.declared.refusal.Refusal.{Refusal}
-use Rattle.routine.specs.declared.Verdict.TheVariants.{Passes, Refused}
 use Rattle.routine.specs.Limits.{most_bases}
 use Rattle.routine.specs.Test.{implies, by_test, implied, implying, clash}
 use Rattle.routine.specs.First.{every_at, every_is}
-use Rattle.routine.specs.Refusal.{none, given, first_due, due_append}
+use Rattle.routine.specs.Refusal.{given, unless, unless_none, unless_some, none_due, some_due, only_due, by_due, some_none, ok_err}
 use Rattle.routine.specs.Routines.{Routines, routines, readlock, free, hold}
 use Rattle.routine.specs.Rules.{WellFormed, KeepsRules}
 use Rattle.routine.specs.Reading.{file_refusals, file_refusal}
@@ -24,34 +24,30 @@ use Rattle.routine.proofs.Formed.{not_refused}
 -- ---- what the judge answers, from the reader's refusal and the walk's
 
 module _ (f : List ℕ) where
-  judge_order : judge_refusal f ≡ cond (eqb (file_refusal f).number 0) (first_due (judgement (routines f) ∷ [])) (file_refusal f)
-  unfolding judge_refusal judge_refusals file_refusal
-  judge_order = due_append (file_refusals f) (judgement (routines f) ∷ [])
+  pub file_refused : (r : Refusal) → file_refusal f ≡ Some r → judging f ≡ Err r
+  unfolding judging judge_refusal judge_refusals file_refusal
+  file_refused r e = unless_some _ _ r (some_due (file_refusals f) (judgement (routines f) ∷ []) r e)
 
-  answers : (r : Refusal) → r.number ≢ 0 → judge_refusal f ≡ r → judging f ≡ Refused r
-  unfolding judging
-  answers r ne e = simp (e, ne_eqb _ _ ne)
+  -- where the file is not refused, the walk decides
+  pub judge_walks : file_refusal f ≡ None → judging f ≡ unless (judgement (routines f)) tt
+  unfolding judging judge_refusal judge_refusals file_refusal
+  judge_walks z = ap (λ o. unless o tt) (none_due (file_refusals f) (judgement (routines f) ∷ []) z ∙ only_due (judgement (routines f)))
 
-  pub file_refused : (file_refusal f).number ≢ 0 → judging f ≡ Refused (file_refusal f)
-  file_refused ne = answers (file_refusal f) ne (judge_order ∙ simp (ne_eqb _ _ ne))
+  pub walk_refused : (r : Refusal) → file_refusal f ≡ None → judgement (routines f) ≡ Some r → judging f ≡ Err r
+  walk_refused r z e = judge_walks z ∙ unless_some _ _ r e
 
-  pub walk_refused : (file_refusal f).number ≡ 0 → (judgement (routines f)).number ≢ 0 → judging f ≡ Refused (judgement (routines f))
-  unfolding first_due
-  walk_refused z ne = answers (judgement (routines f)) ne (judge_order ∙ simp (eq-eqb _ _ z, ne_eqb _ _ ne))
-
-  pub walk_passes : (file_refusal f).number ≡ 0 → (judgement (routines f)).number ≡ 0 → judging f ≡ Passes
-  unfolding first_due judging
-  walk_passes z y = simp (judge_order, eq-eqb _ _ z, eq-eqb _ _ y)
+  pub walk_passes : file_refusal f ≡ None → judgement (routines f) ≡ None → judging f ≡ Ok tt
+  walk_passes z y = judge_walks z ∙ unless_none _ _ y
 
 -- ---- the walk finds nothing exactly where the rules are kept
 
-passes_number : (S : Routines) → (judgement S).number ≡ 0 → passes S ≡ true
+passes_found : (S : Routines) → judgement S ≡ None → passes S ≡ true
 unfolding judgement given
-passes_number S z = by_test (passes S) (λ e. e) (λ e. absurd (omega (arith, simp e at z)))
+passes_found S z = by_test (passes S) (λ e. e) (λ e. absurd (some_none _ (simp e at z)))
 
-number_passes : (S : Routines) → passes S ≡ true → judgement S ≡ none
+found_passes : (S : Routines) → passes S ≡ true → judgement S ≡ None
 unfolding judgement given
-number_passes S e = simp e
+found_passes S e = simp e
 
 module _ (S : Routines) (e : passes S ≡ true) where
   at_place : (p k : ℕ) → 1 ≤ p → p ≤ S.N → k ≤ S.calls p → place_good S p k ≡ true
@@ -103,28 +99,23 @@ module _ (S : Routines) (r : KeepsRules S) where
 
 -- ---- the judge, both ways
 
-refuses : (f : List ℕ) (r : Refusal) → judging f ≡ Passes → judging f ≡ Refused r → ⊥
-refuses f r e g = let z : ◌≡◌ {A = ℕ} 0 1 = cc in omega arith
-
 -- a file that the judge passes is not refused by the reader, and its walk finds nothing
 pub record Passed (f : List ℕ) : Type 0 where
-  pub not_refused : (file_refusal f).number ≡ 0
+  pub not_refused : file_refusal f ≡ None
   pub well_formed : WellFormed (routines f)
   pub keeps : KeepsRules (routines f)
 
-pub passed : (f : List ℕ) → judging f ≡ Passes → Passed f
+pub passed : (f : List ℕ) → judging f ≡ Ok tt → Passed f
 passed f e =
-    elim (ℕ_discrete (file_refusal f).number 0) [
-      | no ne ↦ absurd (refuses f _ e (file_refused f ne))
-      | yes z ↦ elim (ℕ_discrete (judgement (routines f)).number 0) [
-        | no ne ↦ absurd (refuses f _ e (walk_refused f z ne))
-        | yes y ↦ record {
-          not_refused = z;
-          well_formed = (not_refused f z).well_formed;
-          keeps = passes_keeps (routines f) (passes_number (routines f) y);
-        }
-      ]
-    ]
+    by_due (file_refusal f)
+    (λ z. by_due (judgement (routines f))
+    (λ y. record {
+      not_refused = z;
+      well_formed = (not_refused f z).well_formed;
+      keeps = passes_keeps (routines f) (passes_found (routines f) y);
+    })
+    (λ r y. absurd (ok_err tt r (sym e ∙ walk_refused f r z y))))
+    (λ r z. absurd (ok_err tt r (sym e ∙ file_refused f r z)))
 
-pub passing : (f : List ℕ) → (file_refusal f).number ≡ 0 → KeepsRules (routines f) → judging f ≡ Passes
-passing f z r = walk_passes f z (ap (λ x. x.number) (number_passes (routines f) (keeps_passes (routines f) r)))
+pub passing : (f : List ℕ) → file_refusal f ≡ None → KeepsRules (routines f) → judging f ≡ Ok tt
+passing f z r = walk_passes f z (found_passes (routines f) (keeps_passes (routines f) r))

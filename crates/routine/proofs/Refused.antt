@@ -1,23 +1,23 @@
 -- "Given exactly when", for numbers 1, 2 and 3: the condition holds, no earlier number is due, and the block shown is the first such.
-use mathlib.Core.Path.{◌≡◌, sym, ap, ◌∙◌}
-use mathlib.Core.Logic.{◌≢◌}
+use mathlib.Core.Path.{◌≡◌, sym, ap, subst, ◌∙◌}
 use mathlib.Core.Bool.{Bool, true, false}
 use mathlib.Core.List.{List}
-use Prim.Native.Nat.{ℕ, ◌+◌, ◌*◌, ◌%◌, ◌≤◌, ◌<◌}
+use Prim.Native.Nat.{ℕ, ◌+◌, ◌-◌, ◌*◌, ◌%◌, ◌≤◌, ◌<◌}
 use native.Mathlib.Omega.{arith}
 use native.Mathlib.Decide.{dec_le}
-use lib.Dec.{eqb}
 use lib.ListN.{length}
-use borrow.Author.Tests.{eqb-true, eqb-false, eq-eqb, le-leb, lt-leb}
+use borrow.Author.Tests.{eqb-true, le-leb, lt-leb}
+use Rattle.std.specs.Prelude.{Some, None, Ok, Err}
+use Rattle.std.proofs.lemmas.Option.{same_Some}
 use Rattle.routine.specs.declared.refusal.Refusal.{Refusal}
+use Rattle.routine.specs.declared.refusal.Refusal.TheVariants.{Length, Check, Fields}
 use Rattle.routine.specs.declared.set.Set.{Set}
-use Rattle.routine.specs.declared.Reading.TheVariants.{Good, Refused}
 use Rattle.routine.specs.Limits.{most_processes, block_bytes, set_of}
 use Rattle.routine.specs.Test.{within, by_test, and_left, and_right, within_is}
 use Rattle.routine.specs.First.{first_low, first_before, first_fails, first_is}
-use Rattle.routine.specs.Refusal.{refusal_of, none, given, first_due}
+use Rattle.routine.specs.Refusal.{given, first_due, unless_none, unless_some, err_unless, ok_unless, some_none}
 use Rattle.routine.specs.Routines.{routines}
-use Rattle.routine.specs.Reading.{length_good, check_good, fields_good, block_good, first_block, for_block, file_refusals, file_refusal, reading}
+use Rattle.routine.specs.Reading.{length_good, check_good, fields_good, first_block, for_block, file_refusals, file_refusal, reading}
 
 -- ---- a length that is not refused
 
@@ -61,42 +61,59 @@ module _ (good : ℕ → Bool) (n : ℕ) where
   unfolding first_block
   good_are a = first_is good 1 (n + 1) (n + 1) (omega arith) (omega arith) (λ q lo hi. a q lo (omega arith)) (λ h. absurd (omega arith))
 
+-- the same where the blocks are counted from 0
+module _ (good at : ℕ → Bool) (n : ℕ) (agree : (i : ℕ) → i < n → at i ≡ good (i + 1)) where
+  from_1 : (p : ℕ) → 1 ≤ p → p ≤ n → at (p - 1) ≡ true → good p ≡ true
+  from_1 p lo hi e = subst (λ q. good q ≡ true) (omega arith) (sym (agree (p - 1) (omega arith)) ∙ e)
+
+  pub bad_from_0 : (i : ℕ) → i < n → at i ≡ false → ((k : ℕ) → k < i → at k ≡ true) → FirstBad good n (i + 1)
+  bad_from_0 i h f b = record {
+    low = omega arith;
+    high = omega arith;
+    fails = sym (agree i h) ∙ f;
+    before = λ q lo hi. from_1 q lo (omega arith) (b (q - 1) (omega arith));
+  }
+
+  pub good_from_0 : ((k : ℕ) → k < n → at k ≡ true) → AllGood good n
+  good_from_0 a p lo hi = from_1 p lo hi (a (p - 1) (omega arith))
+
 -- ---- the order of the file's numbers, step by step
 
+module _ (good : ℕ → Bool) (n : ℕ) (refusal : ℕ → Refusal) where
+  some_bad : first_block good n ≤ n → for_block good n refusal ≡ Some (refusal (first_block good n))
+  unfolding for_block given
+  some_bad h = rw (le-leb _ _ h)
+
+  none_bad : n < first_block good n → for_block good n refusal ≡ None
+  unfolding for_block given
+  none_bad h = rw (lt-leb _ _ h)
+
 module _ (f : List ℕ) where
-  some_bad : (number : ℕ) → first_block (block_good f number) (routines f).N ≤ (routines f).N → for_block f number ≡ refusal_of number (first_block (block_good f number) (routines f).N) 0
-  unfolding for_block given
-  some_bad number h = rw (le-leb _ _ h)
-
-  none_bad : (number : ℕ) → (routines f).N < first_block (block_good f number) (routines f).N → for_block f number ≡ none
-  unfolding for_block given
-  none_bad number h = rw (lt-leb _ _ h)
-
-  pub due_1 : length_good (length f) ≡ false → file_refusal f ≡ refusal_of 1 0 0
+  pub due_1 : length_good (length f) ≡ false → file_refusal f ≡ Some Length
   unfolding file_refusal file_refusals first_due given
   due_1 e = simp e
 
   module _ (l : length_good (length f) ≡ true) where
-    pub due_2 : first_block (check_good f) (routines f).N ≤ (routines f).N → file_refusal f ≡ refusal_of 2 (first_block (check_good f) (routines f).N) 0
-    unfolding file_refusal file_refusals first_due given block_good
-    due_2 h = simp (l, some_bad 2 h)
+    pub due_2 : first_block (check_good f) (routines f).N ≤ (routines f).N → file_refusal f ≡ Some (Check (first_block (check_good f) (routines f).N))
+    unfolding file_refusal file_refusals first_due given
+    due_2 h = simp (l, some_bad (check_good f) (routines f).N Check h)
 
     module _ (k : (routines f).N < first_block (check_good f) (routines f).N) where
-      pub due_3 : first_block (fields_good f) (routines f).N ≤ (routines f).N → file_refusal f ≡ refusal_of 3 (first_block (fields_good f) (routines f).N) 0
-      unfolding file_refusal file_refusals first_due given block_good
-      due_3 h = simp (l, none_bad 2 k, some_bad 3 h)
+      pub due_3 : first_block (fields_good f) (routines f).N ≤ (routines f).N → file_refusal f ≡ Some (Fields (first_block (fields_good f) (routines f).N))
+      unfolding file_refusal file_refusals first_due given
+      due_3 h = simp (l, none_bad (check_good f) (routines f).N Check k, some_bad (fields_good f) (routines f).N Fields h)
 
-      pub due_none : (routines f).N < first_block (fields_good f) (routines f).N → file_refusal f ≡ none
-      unfolding file_refusal file_refusals first_due given block_good
-      due_none h = simp (l, none_bad 2 k, none_bad 3 h)
+      pub due_none : (routines f).N < first_block (fields_good f) (routines f).N → file_refusal f ≡ None
+      unfolding file_refusal file_refusals first_due given
+      due_none h = simp (l, none_bad (check_good f) (routines f).N Check k, none_bad (fields_good f) (routines f).N Fields h)
 
 -- ---- the four outcomes of reading, each with its reason
 
 pub data Outcome (f : List ℕ) : Type 0 where
-  bad_length : length_good (length f) ≡ false → file_refusal f ≡ refusal_of 1 0 0 → Outcome f
-  bad_check : (p : ℕ) → length_good (length f) ≡ true → FirstBad (check_good f) (routines f).N p → file_refusal f ≡ refusal_of 2 p 0 → Outcome f
-  bad_field : (p : ℕ) → length_good (length f) ≡ true → AllGood (check_good f) (routines f).N → FirstBad (fields_good f) (routines f).N p → file_refusal f ≡ refusal_of 3 p 0 → Outcome f
-  all_good : length_good (length f) ≡ true → AllGood (check_good f) (routines f).N → AllGood (fields_good f) (routines f).N → file_refusal f ≡ none → Outcome f
+  bad_length : length_good (length f) ≡ false → file_refusal f ≡ Some Length → Outcome f
+  bad_check : (p : ℕ) → length_good (length f) ≡ true → FirstBad (check_good f) (routines f).N p → file_refusal f ≡ Some (Check p) → Outcome f
+  bad_field : (p : ℕ) → length_good (length f) ≡ true → AllGood (check_good f) (routines f).N → FirstBad (fields_good f) (routines f).N p → file_refusal f ≡ Some (Fields p) → Outcome f
+  all_good : length_good (length f) ≡ true → AllGood (check_good f) (routines f).N → AllGood (fields_good f) (routines f).N → file_refusal f ≡ None → Outcome f
 
 pub outcome : (f : List ℕ) → Outcome f
 outcome f =
@@ -114,80 +131,64 @@ outcome f =
 -- ---- reading gives the refusal, or the set
 
 module _ (f : List ℕ) where
-  pub gives_refusal : (file_refusal f).number ≢ 0 → reading f ≡ Refused (file_refusal f)
+  pub gives_refusal : (r : Refusal) → file_refusal f ≡ Some r → reading f ≡ Err r
   unfolding reading
-  gives_refusal ne = by_test (eqb (file_refusal f).number 0) (λ e. absurd (ne (eqb-true _ _ e))) (λ e. simp e)
+  gives_refusal r e = unless_some _ _ r e
 
-  pub gives_set : (file_refusal f).number ≡ 0 → reading f ≡ Good (set_of (routines f).N (routines f).B)
+  pub gives_set : file_refusal f ≡ None → reading f ≡ Ok (set_of (routines f).N (routines f).B)
   unfolding reading
-  gives_set z = simp (eq-eqb _ _ z)
-
-  shown : (r : Refusal) → r.number ≢ 0 → file_refusal f ≡ r → reading f ≡ Refused r
-  shown r ne e = rw (← e) (gives_refusal (λ z. ne (ap (λ x. x.number) (sym e) ∙ z)))
+  gives_set e = unless_none _ _ e
 
   -- 1: "file length is 0, above 4,096 or no multiple of 512"
-  pub gives_1 : length_good (length f) ≡ false → reading f ≡ Refused (refusal_of 1 0 0)
-  gives_1 e = shown (refusal_of 1 0 0) (omega arith) (due_1 f e)
+  pub gives_1 : length_good (length f) ≡ false → reading f ≡ Err Length
+  gives_1 e = gives_refusal Length (due_1 f e)
 
   -- 2: "some block's check is wrong", no earlier number is due, and the first such is shown
-  pub gives_2 : (p : ℕ) → length_good (length f) ≡ true → FirstBad (check_good f) (routines f).N p → reading f ≡ Refused (refusal_of 2 p 0)
+  pub gives_2 : (p : ℕ) → length_good (length f) ≡ true → FirstBad (check_good f) (routines f).N p → reading f ≡ Err (Check p)
   gives_2 p l b =
       let e = bad_is (check_good f) (routines f).N p b in
-      shown (refusal_of 2 p 0) (omega arith) (due_2 f l (omega (arith, b.high)) ∙ ap (λ q. refusal_of 2 q 0) e)
+      gives_refusal (Check p) (due_2 f l (omega (arith, b.high)) ∙ ap (λ q. Some (Check q)) e)
 
   -- 3: "some block breaks a field rule above", no earlier number is due, and the first such is shown
-  pub gives_3 : (p : ℕ) → length_good (length f) ≡ true → AllGood (check_good f) (routines f).N → FirstBad (fields_good f) (routines f).N p → reading f ≡ Refused (refusal_of 3 p 0)
+  pub gives_3 : (p : ℕ) → length_good (length f) ≡ true → AllGood (check_good f) (routines f).N → FirstBad (fields_good f) (routines f).N p → reading f ≡ Err (Fields p)
   gives_3 p l a b =
       let e = bad_is (fields_good f) (routines f).N p b in
       let k = good_are (check_good f) (routines f).N a in
-      shown (refusal_of 3 p 0) (omega arith) (due_3 f l (omega arith) (omega (arith, b.high)) ∙ ap (λ q. refusal_of 3 q 0) e)
+      gives_refusal (Fields p) (due_3 f l (omega arith) (omega (arith, b.high)) ∙ ap (λ q. Some (Fields q)) e)
 
   -- a file in which nothing is due is good
-  pub gives_good : length_good (length f) ≡ true → AllGood (check_good f) (routines f).N → AllGood (fields_good f) (routines f).N → reading f ≡ Good (set_of (routines f).N (routines f).B)
+  pub gives_good : length_good (length f) ≡ true → AllGood (check_good f) (routines f).N → AllGood (fields_good f) (routines f).N → reading f ≡ Ok (set_of (routines f).N (routines f).B)
   gives_good l a b =
       let k = good_are (check_good f) (routines f).N a in
       let g = good_are (fields_good f) (routines f).N b in
-      gives_set (ap (λ r. r.number) (due_none f l (omega arith) (omega arith)))
+      gives_set (due_none f l (omega arith) (omega arith))
+
+-- ---- taking an answer apart
+
+pub refused_is : (f : List ℕ) (r : Refusal) → reading f ≡ Err r → file_refusal f ≡ Some r
+unfolding reading
+refused_is f r e = err_unless _ _ r e
+
+pub good_is : (f : List ℕ) (s : Set) → reading f ≡ Ok s → (file_refusal f ≡ None) × (s ≡ set_of (routines f).N (routines f).B)
+unfolding reading
+good_is f s e = ok_unless _ _ s e
 
 -- ---- and only then
 
 -- what a refusal by the reader says of the file
 pub data Why (f : List ℕ) (r : Refusal) : Type 0 where
-  length_wrong : r ≡ refusal_of 1 0 0 → length_good (length f) ≡ false → Why f r
-  check_wrong : (p : ℕ) → r ≡ refusal_of 2 p 0 → length_good (length f) ≡ true → FirstBad (check_good f) (routines f).N p → Why f r
-  field_wrong : (p : ℕ) → r ≡ refusal_of 3 p 0 → length_good (length f) ≡ true → AllGood (check_good f) (routines f).N → FirstBad (fields_good f) (routines f).N p → Why f r
+  length_wrong : r ≡ Length → length_good (length f) ≡ false → Why f r
+  check_wrong : (p : ℕ) → r ≡ Check p → length_good (length f) ≡ true → FirstBad (check_good f) (routines f).N p → Why f r
+  field_wrong : (p : ℕ) → r ≡ Fields p → length_good (length f) ≡ true → AllGood (check_good f) (routines f).N → FirstBad (fields_good f) (routines f).N p → Why f r
 
-same_refusal : (r s : Refusal) → Refused r ≡ Refused s → r ≡ s
-same_refusal r s e = cc
-
-no_set : (r : Refusal) (n b : ℕ) → Good (set_of n b) ≡ Refused r → ⊥
-no_set r n b e = let z : ◌≡◌ {A = ℕ} 0 1 = cc in omega arith
-
-pub only_when : (f : List ℕ) (r : Refusal) → reading f ≡ Refused r → Why f r
+pub only_when : (f : List ℕ) (r : Refusal) → reading f ≡ Err r → Why f r
 only_when f r e = go (outcome f)
   where
+    is : (s : Refusal) → file_refusal f ≡ Some s → r ≡ s
+    is s z = same_Some r s (sym (refused_is f r e) ∙ z)
+
     go : Outcome f → Why f r
-    go (bad_length l z) = length_wrong (same_refusal _ _ (sym e ∙ gives_1 f l)) l
-    go (bad_check p l b z) = check_wrong p (same_refusal _ _ (sym e ∙ gives_2 f p l b)) l b
-    go (bad_field p l a b z) = field_wrong p (same_refusal _ _ (sym e ∙ gives_3 f p l a b)) l a b
-    go (all_good l a b z) = absurd (no_set r _ _ (sym (gives_good f l a b) ∙ e))
-
--- ---- taking an answer apart
-
-pub refused_is : (f : List ℕ) (r : Refusal) → reading f ≡ Refused r → (file_refusal f ≡ r) × ((file_refusal f).number ≢ 0)
-refused_is f r e =
-    by_test (eqb (file_refusal f).number 0)
-    (λ t. absurd (no_set r _ _ (sym (gives_set f (eqb-true _ _ t)) ∙ e)))
-    (λ t. let ne = eqb-false (file_refusal f).number 0 t in (same_refusal _ _ (sym (gives_refusal f ne) ∙ e), ne))
-
-same_set : (s u : Set) → Good s ≡ Good u → s ≡ u
-same_set s u e = cc
-
-pub good_is : (f : List ℕ) (s : Set) → reading f ≡ Good s → ((file_refusal f).number ≡ 0) × (s ≡ set_of (routines f).N (routines f).B)
-good_is f s e =
-    by_test (eqb (file_refusal f).number 0)
-    (λ t. let z = eqb-true (file_refusal f).number 0 t in (z, same_set _ _ (sym e ∙ gives_set f z)))
-    (λ t. absurd (no_refusal (file_refusal f) s (sym (gives_refusal f (eqb-false _ _ t)) ∙ e)))
-  where
-    no_refusal : (r : Refusal) (u : Set) → Refused r ≡ Good u → ⊥
-    no_refusal r u e = let z : ◌≡◌ {A = ℕ} 0 1 = cc in omega arith
+    go (bad_length l z) = length_wrong (is _ z) l
+    go (bad_check p l b z) = check_wrong p (is _ z) l b
+    go (bad_field p l a b z) = field_wrong p (is _ z) l a b
+    go (all_good l a b z) = absurd (some_none r (sym (refused_is f r e) ∙ z))

@@ -1,6 +1,14 @@
 -- The contracts settle everything: any two answers that the contract of a public call allows are equal.
 use mathlib.Core.Path.{◌≡◌, sym, ◌∙◌}
+use mathlib.Core.List.{List}
+use Prim.Native.Nat.{ℕ}
 use contract.Lifetimes.{Lfts}
+use Rattle.std.specs.Prelude.{Result, Ok, Err, MatchResult}
+use Rattle.routine.specs.declared.refusal.Refusal.{Refusal}
+use Rattle.routine.specs.declared.set.Set.{Set}
+use Rattle.routine.specs.declared.good_file.GoodFile.{GoodFile}
+use Rattle.routine.specs.Refusal.{ok_err}
+use Rattle.routine.specs.Reading.{reading}
 use Rattle.routine.proofs.read.Reads as read_reads
 use Rattle.routine.proofs.judge.Reads as judge_reads
 use Rattle.routine.proofs.calls.calls_in.Reads as calls_reads
@@ -12,8 +20,14 @@ use Rattle.routine.proofs.holds.marked.Reads as marked_reads
 use Rattle.routine.proofs.range.within.Reads as within_reads
 use Rattle.routine.proofs.set.Set.new.Reads as set_reads
 use Rattle.routine.proofs.set.Set.limits.Reads as limits_reads
-use Rattle.routine.proofs.refusal.Refusal.new.Reads as refusal_reads
-use Rattle.routine.proofs.refusal.Refusal.none.Reads as none_reads
+use Rattle.routine.proofs.refusal.Shown.new.Reads as shown_reads
+use Rattle.routine.proofs.refusal.Shown.none.Reads as none_reads
+use Rattle.routine.proofs.refusal.ShownFromRefusal.from.Reads as from_reads
+use Rattle.routine.proofs.good_file.GoodFile.read.Reads as good_reads
+use Rattle.routine.proofs.good_file.GoodFile.set.Reads as good_set_reads
+use Rattle.routine.proofs.good_file.GoodFile.processes.Reads as good_processes_reads
+use Rattle.routine.proofs.good_file.GoodFile.calls_in.Reads as good_calls_reads
+use Rattle.routine.proofs.good_file.GoodFile.call_at.Reads as good_call_reads
 
 pub read_settled : (κs : Lfts 1) (a : _) (r s : _) (x y : _) → read_reads.Post κs a r x → read_reads.Post κs a s y → r ≡ s
 read_settled κs a r s x y p q = p ∙ sym q
@@ -48,8 +62,48 @@ set_settled κs a r s x y p q = p ∙ sym q
 pub limits_settled : (κs : Lfts 0) (a : _) (r s : _) (x y : _) → limits_reads.Post κs a r x → limits_reads.Post κs a s y → r ≡ s
 limits_settled κs a r s x y p q = p ∙ sym q
 
-pub refusal_settled : (κs : Lfts 0) (a : _) (r s : _) (x y : _) → refusal_reads.Post κs a r x → refusal_reads.Post κs a s y → r ≡ s
-refusal_settled κs a r s x y p q = p ∙ sym q
+pub shown_settled : (κs : Lfts 0) (a : _) (r s : _) (x y : _) → shown_reads.Post κs a r x → shown_reads.Post κs a s y → r ≡ s
+shown_settled κs a r s x y p q = p ∙ sym q
 
 pub none_settled : (κs : Lfts 0) (a : _) (r s : _) (x y : _) → none_reads.Post κs a r x → none_reads.Post κs a s y → r ≡ s
 none_settled κs a r s x y p q = p ∙ sym q
+
+pub from_settled : (κs : Lfts 0) (a : _) (r s : _) (x y : _) → from_reads.Post κs a r x → from_reads.Post κs a s y → r ≡ s
+from_settled κs a r s x y p q = p ∙ sym q
+
+pub good_set_settled : (κs : Lfts 1) (a : _) (r s : _) (x y : _) → good_set_reads.Post κs a r x → good_set_reads.Post κs a s y → r ≡ s
+good_set_settled κs a r s x y p q = p ∙ sym q
+
+pub good_processes_settled : (κs : Lfts 1) (a : _) (r s : _) (x y : _) → good_processes_reads.Post κs a r x → good_processes_reads.Post κs a s y → r ≡ s
+good_processes_settled κs a r s x y p q = p.0 ∙ sym q.0
+
+pub good_calls_settled : (κs : Lfts 1) (a : _) (r s : _) (x y : _) → good_calls_reads.Post κs a r x → good_calls_reads.Post κs a s y → r ≡ s
+good_calls_settled κs a r s x y p q = p ∙ sym q
+
+pub good_call_settled : (κs : Lfts 1) (a : _) (r s : _) (x y : _) → good_call_reads.Post κs a r x → good_call_reads.Post κs a s y → r ≡ s
+good_call_settled κs a r s x y p q = p ∙ sym q
+
+-- a file is read into the same set and bytes, or refused for the same reason
+abbrev pub SameGood : Result GoodFile Refusal → Result GoodFile Refusal → Type 0
+SameGood (Ok g) (Ok h) = (g.set ≡ h.set) × (g.bytes.now ≡ h.bytes.now)
+SameGood (Err q) (Err r) = q ≡ r
+SameGood (Ok g) (Err r) = ⊥
+SameGood (Err q) (Ok h) = ⊥
+
+abbrev Gives : List ℕ → Result GoodFile Refusal → Type 0
+Gives f r = MatchResult r (λ g. (reading f ≡ Ok g.set) × (g.bytes.now ≡ f)) (λ q. reading f ≡ Err q)
+
+same_good : (f : List ℕ) (r s : Result GoodFile Refusal) → Gives f r → Gives f s → SameGood r s
+same_good f (Ok g) (Ok h) p q = (ok_same (sym p.0 ∙ q.0), p.1 ∙ sym q.1)
+  where
+    ok_same : {a b : Set} → ◌≡◌ {A = Result Set Refusal} (Ok a) (Ok b) → a ≡ b
+    ok_same e = cc
+same_good f (Err o) (Err r) p q = err_same (sym p ∙ q)
+  where
+    err_same : {a b : Refusal} → ◌≡◌ {A = Result Set Refusal} (Err a) (Err b) → a ≡ b
+    err_same e = cc
+same_good f (Ok g) (Err r) p q = absurd (ok_err _ _ (sym p.0 ∙ q))
+same_good f (Err o) (Ok h) p q = absurd (ok_err _ _ (sym q.0 ∙ p))
+
+pub good_settled : (κs : Lfts 1) (a : _) (r s : _) (x y : _) → good_reads.Post κs a r x → good_reads.Post κs a s y → SameGood r s
+good_settled κs a r s x y p q = same_good _ r s p q

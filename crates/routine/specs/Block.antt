@@ -1,6 +1,5 @@
 -- "N blocks of 512 bytes, block p for process p": one block, by its bytes.
-use Rattle.std.specs.Prelude.{◌≡◌, Bool, cond, List, ℕ, ◌+◌, ◌-◌, ◌*◌, ◌%◌, ◌<◌, eqb, ltb, leb, get_or, take, drop}
-use Rattle.std.proofs.Common.{◌∙◌, get_or-take, get_or-drop}
+use Rattle.std.specs.Prelude.{Bool, cond, List, ℕ, ◌+◌, ◌-◌, ◌*◌, ◌%◌, eqb, ltb, leb, get_or, take, drop}
 use Rattle.routine.specs.Test.{and, within}
 use Rattle.routine.specs.First.{first_in}
 use Rattle.routine.specs.Sum.{sum_below}
@@ -21,6 +20,9 @@ check s = 1 + sum_below checked_bytes (λ i. (i + 1) * byte s i)
 -- "bytes 508 to 511, low byte first: the check"
 unfoldable pub check_shown : List ℕ → ℕ
 check_shown s = byte s checked_bytes + 256 * (byte s (checked_bytes + 1) + 256 * (byte s (checked_bytes + 2) + 256 * byte s (checked_bytes + 3)))
+
+unfoldable pub check_right : List ℕ → Bool
+check_right s = eqb (check s) (check_shown s)
 
 -- from byte 4, n calls of two bytes: kind (1 modlock, 2 readlock, 3 unlock, 4 decrease), then base, 1 to B
 unfoldable pub call_byte_good : ℕ → ℕ → ℕ → Bool
@@ -46,9 +48,5 @@ byte_good n b p s i =
 unfoldable pub bad_byte : ℕ → ℕ → ℕ → List ℕ → ℕ
 bad_byte n b p s = first_in (byte_good n b p s) 0 checked_bytes
 
--- ---- laws
-
--- a block's byte is the file's at the block's start plus its place
-pub byte_of : (f : List ℕ) (p i : ℕ) → i < block_bytes → byte (block f p) i ≡ get_or f (block_bytes * (p - 1) + i) 0
-unfolding block
-byte_of f p i h = get_or-take block_bytes (drop (block_bytes * (p - 1)) f) i 0 h ∙ get_or-drop (block_bytes * (p - 1)) f i 0
+unfoldable pub fields_right : ℕ → ℕ → ℕ → List ℕ → Bool
+fields_right n b p s = eqb (bad_byte n b p s) checked_bytes

@@ -1,12 +1,12 @@
 -- The first number that fails a test, and the test of every number in a range.
-use Rattle.std.specs.Prelude.{◌≡◌, Bool, true, false, cond, eqb}
+use Rattle.std.specs.Prelude.{◌≡◌, Bool, true, false, cond, eqb, Option, Some, None, is_some, not, MatchOption}
 use Rattle.std.proofs.Math.Path.{sym}
 use Rattle.std.proofs.Common.{ap, ◌∙◌}
 use Prim.Native.Nat.{ℕ, zero, suc, ◌+◌, ◌-◌, ◌≤◌, ◌<◌}
 use native.Mathlib.Omega.{arith}
 use Rattle.std.proofs.Math.Decide.{ℕ_discrete, dec_le}
-use borrow.Author.Tests.{eqb-true, eqb-false, eq-eqb, ne_eqb}
-use Rattle.routine.specs.Test.{clash, by_test}
+use borrow.Author.Tests.{eqb-true, eqb-false, eq-eqb, ne_eqb, not-true, not-false}
+use Rattle.routine.specs.Test.{clash, by_test, and, both, and_skip, and_stop}
 
 -- the first of the m numbers from i on that fails, or i + m
 unfoldable pub first : (ℕ → Bool) → ℕ → ℕ → ℕ
@@ -20,6 +20,10 @@ first_in good i e = first good i (e - i)
 -- every number from i on, below e, passes
 unfoldable pub every : (ℕ → Bool) → ℕ → ℕ → Bool
 every good i e = eqb (first_in good i e) e
+
+-- i is the first of the numbers below n that fails, or there is none
+abbrev pub IsFirstBad : (ℕ → Bool) → ℕ → Option ℕ → Type 0
+IsFirstBad good n r = MatchOption r ((k : ℕ) → k < n → good k ≡ true) (λ i. (i < n) × (good i ≡ false) × ((k : ℕ) → k < i → good k ≡ true))
 
 -- ---- laws
 
@@ -102,6 +106,29 @@ module _ (good : ℕ → Bool) where
   pub every_not : (i e : ℕ) → i ≤ e → every good i e ≡ false → first_in good i e < e
   unfolding every
   every_not i e l t = let ne : first_in good i e ≡ e → ⊥ = eqb-false _ _ t in let hi = first_high i e l in omega arith
+
+  -- one that fails is enough
+  pub one_fails : (i e j : ℕ) → i ≤ j → j < e → good j ≡ false → every good i e ≡ false
+  one_fails i e j a b f = by_test (every good i e) (λ t. absurd (clash (every_at i e t j a b) f)) (λ t. t)
+
+  -- one number more
+  pub every_more : (i e : ℕ) → i ≤ e → every good i (e + 1) ≡ and (every good i e) (good e)
+  every_more i e l =
+      by_test (every good i e)
+      (λ t. by_test (good e)
+      (λ g. every_is i (e + 1) (omega arith) (with_last i e t g) ∙ sym (both t g))
+      (λ g. one_fails i (e + 1) e l (omega arith) g ∙ sym (and_skip _ (good e) t ∙ g)))
+      (λ t. by_test (every good i (e + 1))
+      (λ u. absurd (clash (every_is i e l (λ j a b. every_at i (e + 1) u j a (omega arith))) t))
+      (λ u. u ∙ sym (and_stop _ (good e) t)))
+    where
+      with_last : (i e : ℕ) → every good i e ≡ true → good e ≡ true → (j : ℕ) → i ≤ j → j < e + 1 → good j ≡ true
+      with_last i e t g j a b = elim (ℕ_discrete j e) [ yes z ↦ rw z g | no nz ↦ every_at i e t j a (omega arith) ]
+
+  -- what is found tells whether every number passes
+  pub none_found : (n : ℕ) (r : Option ℕ) (b : Bool) → IsFirstBad good n r → is_some r ≡ not b → b ≡ every good 0 n
+  none_found n None b f e = not-false b (sym e) ∙ sym (every_is 0 n (omega arith) (λ k _ h. f k h))
+  none_found n (Some i) b f e = not-true b (sym e) ∙ sym (one_fails 0 n i (omega arith) f.0 f.1)
 
   -- a walk that started at i and has come to j: it stops at j, or is past the last number
   pub walk_stops : (i j e : ℕ) → first_in good j e ≡ first_in good i e → j < e → good j ≡ false → every good i e ≡ false

@@ -1,13 +1,12 @@
 -- The judge: which file passes, and where one that does not fails first.
-use Rattle.std.specs.Prelude.{Bool, cond, not, List, [], ◌∷◌, ◌++◌, ℕ, ◌+◌, eqb, ltb, leb}
-use Rattle.routine.specs.declared.Verdict.{Verdict}
-use Rattle.routine.specs.declared.Verdict.TheVariants.{Passes, Refused}
+use Rattle.std.specs.Prelude.{Bool, cond, not, List, [], ◌∷◌, ◌++◌, ℕ, ◌+◌, eqb, ltb, leb, ⊤, Option, Result}
 use Rattle.routine.specs.declared.refusal.Refusal.{Refusal}
+use Rattle.routine.specs.declared.refusal.Refusal.TheVariants.{Routine}
 use Rattle.routine.specs.Test.{implies}
 use Rattle.routine.specs.First.{first_in, every}
 use Rattle.routine.specs.Limits.{most_bases}
 use Rattle.routine.specs.Routines.{Routines, routines, readlock, free, fine, hold}
-use Rattle.routine.specs.Refusal.{none, given, first_due}
+use Rattle.routine.specs.Refusal.{given, first_due, unless}
 use Rattle.routine.specs.Reading.{first_block, file_refusals}
 
 -- a modlock or readlock
@@ -44,21 +43,16 @@ unfoldable pub passes : Routines → Bool
 passes S = every (routine_passes S) 1 (S.N + 1)
 
 -- 4: "the file does not pass", with the first failing call in file order; "call places count from 1"
-unfoldable pub judgement : Routines → Refusal
-judgement S = given (not (passes S)) 4 (failing_block S) (failing_place S (failing_block S) + 1)
+unfoldable pub judgement : Routines → Option Refusal
+judgement S = given (not (passes S)) (Routine (failing_block S) (failing_place S (failing_block S) + 1))
 
 -- "Order: 1, 2, 3, then 4 for the judge"
-unfoldable pub judge_refusals : List ℕ → List Refusal
+unfoldable pub judge_refusals : List ℕ → List (Option Refusal)
 judge_refusals f = file_refusals f ++ (judgement (routines f) ∷ [])
 
-unfoldable pub judge_refusal : List ℕ → Refusal
+unfoldable pub judge_refusal : List ℕ → Option Refusal
 judge_refusal f = first_due (judge_refusals f)
 
--- what the judge answers
-unfoldable pub judging : List ℕ → Verdict
-judging f = cond (eqb (judge_refusal f).number 0) Passes (Refused (judge_refusal f))
-
--- the document's number, block and call place of what the judge answers: zeros where it refuses nothing
-unfoldable pub verdict_numbers : Verdict → Refusal
-verdict_numbers Passes = none
-verdict_numbers (Refused r) = r
+-- what the judge answers: a file that it refuses nothing of passes
+unfoldable pub judging : List ℕ → Result ⊤ Refusal
+judging f = unless (judge_refusal f) tt

@@ -22,7 +22,7 @@ pub record RowOf (row : List ℕ) (S : Routines) (p k : ℕ) : Type 0 where
 
 -- ---- laws
 
-in_row : (row : List ℕ) (b : ℕ) → 1 ≤ b → b ≤ most_bases → mark_in row b ≡ get_or row (b - 1) 0
+pub in_row : (row : List ℕ) (b : ℕ) → 1 ≤ b → b ≤ most_bases → mark_in row b ≡ get_or row (b - 1) 0
 unfolding mark_in
 in_row row b lo hi = simp (is_within 1 most_bases b lo hi)
 

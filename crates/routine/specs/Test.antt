@@ -43,6 +43,11 @@ pub and_stop : (a b : Bool) → a ≡ false → and a b ≡ false
 unfolding and
 and_stop a b e = rw e
 
+pub and_end : (a b : Bool) → b ≡ true → and a b ≡ a
+unfolding and
+and_end true b e = e
+and_end false b e = refl
+
 pub both : {a b : Bool} → a ≡ true → b ≡ true → and a b ≡ true
 unfolding and
 both e f = rw (e, f)

@@ -1,21 +1,17 @@
-ghost use Rattle.std.specs.Prelude.{◌≡◌, ◌*◌, ◌<◌, ◌≤◌, length};
-ghost use Rattle.routine.specs.Limits.{most_processes, block_bytes};
+ghost use Rattle.std.specs.Prelude.{◌≡◌, true, false, MatchOption};
+ghost use Rattle.routine.specs.Test.{within};
 ghost use Rattle.routine.specs.Block.{block};
+ghost use Rattle.routine.specs.Routines.{routines};
 
 use crate::set::Set;
 
-// A byte as a number.
-pub(crate) fn wide(x: u8) -> usize
-    ensures { (result ≡ x) × (result < 256) }
-{
-    x as usize
-}
+pub(crate) type Block = [u8; Set::BLOCK];
 
 // Block p of a file, from 1.
-pub(crate) fn block_of(file: &[u8], p: usize) -> &[u8]
-    requires { (1 ≤ p) × (p ≤ most_processes) × (block_bytes * p ≤ length file.now) }
-    ensures { (result.now ≡ block file.now p) × (length result.now ≡ block_bytes) }
+#[tactic(auto, using(crate::specs::Test::below_within))]
+pub(crate) fn block_at(file: &[u8], p: usize) -> Option<&Block>
+    ensures { MatchOption result (within 1 (routines file.now).N p ≡ false) (λ b. (within 1 (routines file.now).N p ≡ true) × (b.now ≡ block file.now p)) }
 {
-    let at = Set::BLOCK * (p - 1);
-    &file[at..at + Set::BLOCK]
+    let (blocks, _) = file.as_chunks();
+    blocks.get(p.checked_sub(1)?)
 }

@@ -1,11 +1,12 @@
 ghost use Rattle.std.specs.Prelude.{◌≡◌};
 ghost use Rattle.routine.specs.Calls.{call_at, calls_in};
 
-use crate::block::wide;
+use crate::block::block_at;
 use crate::set::Set;
 
 // A call: its kind (1 modlock, 2 readlock, 3 unlock, 4 decrease) and its base, from 1.
-#[derive(Clone, Copy)]
+// The kind is a number and no enum: `call_at` gives any byte of a file that nobody has read yet, and `holds` takes any number.
+#[derive(Clone, Copy, Debug, PartialEq, Eq)]
 pub struct Call {
     pub kind: usize,
     pub base: usize,
@@ -22,31 +23,28 @@ impl Call {
 }
 
 // How many calls the routine of process p has, or 0 where the file has no block p.
+#[tactic(auto, unfolding(crate::specs::Calls::calls_in, crate::specs::Routines::routines))]
 pub fn calls_in(file: &[u8], p: usize) -> usize
     ensures { result ≡ calls_in file.now p }
 {
-    if p == 0 {
-        return 0;
+    match block_at(file, p) {
+        Some(block) => usize::from(block[2]),
+        None => 0,
     }
-    if file.len() / Set::BLOCK < p {
-        return 0;
-    }
-    wide(file[Set::BLOCK * (p - 1) + 2])
 }
 
-// The call at which process p stands when it has completed k calls; kind 0 and base 0 where there is none, or past the 32nd.
-pub fn call_at(file: &[u8], p: usize, k: usize) -> Call
+// The call at which process p stands when it has completed k calls; none past its last, or past the 32nd.
+#[tactic(auto, using(crate::specs::Calls::no_block, crate::specs::Calls::past_calls, crate::specs::Calls::among_calls), unfolding(crate::specs::Routines::routines))]
+pub fn call_at(file: &[u8], p: usize, k: usize) -> Option<Call>
     ensures { result ≡ call_at file.now p k }
 {
-    if calls_in(file, p) <= k {
-        return Call { kind: 0, base: 0 };
+    let block = block_at(file, p)?;
+    if usize::from(block[2]).min(Set::CALLS) <= k {
+        return None;
     }
-    if Set::CALLS <= k {
-        return Call { kind: 0, base: 0 };
-    }
-    let at = Set::BLOCK * (p - 1) + Set::HEAD + 2 * k;
-    Call {
-        kind: wide(file[at]),
-        base: wide(file[at + 1]),
-    }
+    let at = Set::HEAD + 2 * k;
+    Some(Call {
+        kind: usize::from(block[at]),
+        base: usize::from(block[at + 1]),
+    })
 }

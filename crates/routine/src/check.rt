@@ -1,32 +1,34 @@
-ghost use Rattle.std.specs.Prelude.{◌≡◌, length};
-ghost use Rattle.routine.specs.Limits.{block_bytes};
-ghost use Rattle.routine.specs.Block.{check, check_shown};
+ghost use Rattle.std.specs.Prelude.{◌≡◌};
+ghost use Rattle.routine.specs.Block.{check, check_shown, check_right};
 
-use crate::block::wide;
+use crate::block::Block;
 use crate::set::Set;
 
 // The check that a block ought to show.
-pub(crate) fn check(block: &[u8]) -> usize
-    requires { length block.now ≡ block_bytes }
+#[tactic(auto, unfolding(crate::specs::Sum::sum_below))]
+fn check(block: &Block) -> usize
     ensures { result ≡ check block.now }
 {
     let mut sum = 1;
-    let mut i = 0;
-    while i < Set::CHECKED {
-        sum += (i + 1) * wide(block[i]);
-        i += 1;
+    for (i, byte) in block[..Set::CHECKED].iter().enumerate() {
+        sum += (i + 1) * usize::from(*byte);
     }
     sum
 }
 
-// The check that a block shows, low byte first.
-pub(crate) fn check_shown(block: &[u8]) -> usize
-    requires { length block.now ≡ block_bytes }
+// The check that a block shows.
+#[tactic(auto, unfolding(crate::specs::Block::check_shown))]
+fn check_shown(block: &Block) -> usize
     ensures { result ≡ check_shown block.now }
 {
-    let a = wide(block[Set::CHECKED]);
-    let b = wide(block[Set::CHECKED + 1]);
-    let c = wide(block[Set::CHECKED + 2]);
-    let d = wide(block[Set::CHECKED + 3]);
-    a + 256 * (b + 256 * (c + 256 * d))
+    let [.., a, b, c, d] = *block;
+    // The language has no From<u32> for usize.
+    u32::from_le_bytes([a, b, c, d]) as usize
+}
+
+#[tactic(auto, unfolding(crate::specs::Block::check_right))]
+pub(crate) fn check_right(block: &Block) -> bool
+    ensures { result ≡ check_right block.now }
+{
+    check(block) == check_shown(block)
 }

@@ -1,13 +1,15 @@
-ghost use Rattle.std.specs.Prelude.{◌≡◌, ◌<◌, length};
-ghost use Rattle.routine.specs.Limits.{block_bytes, checked_bytes};
-ghost use Rattle.routine.specs.Block.{call_byte_good, byte_good, bad_byte};
+ghost use Rattle.std.specs.Prelude.{◌≡◌, ◌<◌};
+ghost use Rattle.routine.specs.Limits.{checked_bytes};
+ghost use Rattle.routine.specs.First.{IsFirstBad};
+ghost use Rattle.routine.specs.Block.{call_byte_good, byte_good, fields_right};
 
-use crate::block::wide;
+use crate::block::Block;
 use crate::calls::Call;
 use crate::range::within;
 use crate::set::Set;
 
 // The field rule of a byte among the calls: kind, then base.
+#[tactic(auto, unfolding(crate::specs::Block::call_byte_good))]
 fn call_byte_good(bases: usize, i: usize, v: usize) -> bool
     ensures { result ≡ call_byte_good bases i v }
 {
@@ -18,43 +20,36 @@ fn call_byte_good(bases: usize, i: usize, v: usize) -> bool
 }
 
 // The field rule of byte i of block p.
-fn byte_good(set: Set, p: usize, block: &[u8], i: usize) -> bool
-    requires { (length block.now ≡ block_bytes) × (i < checked_bytes) }
+#[tactic(auto, unfolding(crate::specs::Block::byte_good, crate::specs::Test::and))]
+fn byte_good(set: Set, p: usize, block: &Block, i: usize) -> bool
+    requires { i < checked_bytes }
     ensures { result ≡ byte_good set.processes set.bases p block.now i }
 {
-    let v = wide(block[i]);
-    if i == 0 {
-        return v == p;
+    let v = usize::from(block[i]);
+    match i {
+        0 => v == p,
+        1 => v == set.processes,
+        2 => v <= Set::CALLS,
+        3 => v == set.bases && within(1, Set::BASES, v),
+        _ if i < Set::HEAD + 2 * usize::from(block[2]) => call_byte_good(set.bases, i, v),
+        _ => v == 0,
     }
-    if i == 1 {
-        return v == set.processes;
-    }
-    if i == 2 {
-        return v <= Set::CALLS;
-    }
-    if i == 3 {
-        if v != set.bases {
-            return false;
-        }
-        return within(1, Set::BASES, v);
-    }
-    if i < Set::HEAD + 2 * wide(block[2]) {
-        return call_byte_good(set.bases, i, v);
-    }
-    v == 0
 }
 
-// The first byte of block p that breaks its field rule, or the number of bytes that have one.
-pub(crate) fn bad_byte(set: Set, p: usize, block: &[u8]) -> usize
-    requires { length block.now ≡ block_bytes }
-    ensures { result ≡ bad_byte set.processes set.bases p block.now }
+// The first byte of block p that breaks its field rule.
+fn bad_byte(set: Set, p: usize, block: &Block) -> Option<usize>
+    ensures { IsFirstBad (byte_good set.processes set.bases p block.now) checked_bytes result }
 {
-    let mut i = 0;
-    while i < Set::CHECKED {
+    for i in 0..Set::CHECKED {
         if !byte_good(set, p, block, i) {
-            return i;
+            return Some(i);
         }
-        i += 1;
     }
-    i
+    None
+}
+
+pub(crate) fn fields_right(set: Set, p: usize, block: &Block) -> bool
+    ensures { result ≡ fields_right set.processes set.bases p block.now }
+{
+    bad_byte(set, p, block).is_none()
 }

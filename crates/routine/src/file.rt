@@ -1,92 +1,42 @@
-ghost use Rattle.std.specs.Prelude.{◌≡◌, ◌*◌, ◌≤◌, length};
-ghost use Rattle.routine.specs.Limits.{most_processes, block_bytes, set_of};
-ghost use Rattle.routine.specs.Routines.{routines};
-ghost use Rattle.routine.specs.Reading.{length_good, check_good, fields_good, block_good, first_block, file_refusal};
+ghost use Rattle.std.specs.Prelude.{◌≡◌, ◌+◌, ◌<◌, length, get_or, []};
+ghost use Rattle.routine.specs.First.{IsFirstBad};
+ghost use Rattle.routine.specs.Block.{check_right, fields_right};
+ghost use Rattle.routine.specs.Limits.{set_of};
+ghost use Rattle.routine.specs.Reading.{length_good};
 
-use crate::block::{block_of, wide};
-use crate::check::{check, check_shown};
-use crate::fields::bad_byte;
-use crate::refusal::Refusal;
+use crate::block::Block;
+use crate::check::check_right;
+use crate::fields::fields_right;
 use crate::set::Set;
 
-fn length_good(length: usize) -> bool
+#[tactic(auto, unfolding(crate::specs::Reading::length_good, crate::specs::Test::within, crate::specs::Test::and))]
+pub(crate) fn length_good(length: usize) -> bool
     ensures { result ≡ length_good length }
 {
-    if length == 0 {
-        return false;
-    }
-    if Set::PROCESSES * Set::BLOCK < length {
-        return false;
-    }
-    length % Set::BLOCK == 0
+    (1..=Set::PROCESSES * Set::BLOCK).contains(&length) && length % Set::BLOCK == 0
 }
 
-fn check_good(file: &[u8], p: usize) -> bool
-    requires { (1 ≤ p) × (p ≤ most_processes) × (block_bytes * p ≤ length file.now) }
-    ensures { result ≡ check_good file.now p }
+// N and B of a file of these blocks.
+pub(crate) fn set_of(blocks: &[Block]) -> Set
+    requires { 0 < length blocks.now }
+    ensures { result ≡ set_of (length blocks.now) (get_or (get_or blocks.now 0 []) 3 0) }
 {
-    let block = block_of(file, p);
-    check(block) == check_shown(block)
+    Set::new(blocks.len(), usize::from(blocks[0][3]))
 }
 
-fn fields_good(file: &[u8], set: Set, p: usize) -> bool
-    requires { (set ≡ set_of (routines file.now).N (routines file.now).B) × (1 ≤ p) × (p ≤ most_processes) × (block_bytes * p ≤ length file.now) }
-    ensures { result ≡ fields_good file.now p }
+// The first block, from 0, whose check is wrong.
+pub(crate) fn wrong_check(blocks: &[Block]) -> Option<usize>
+    ensures { IsFirstBad (λ i. check_right (get_or blocks.now i [])) (length blocks.now) result }
 {
-    bad_byte(set, p, block_of(file, p)) == Set::CHECKED
+    blocks.iter().position(|block| !check_right(block))
 }
 
-// Whether block p keeps the rule of number 2 or 3.
-fn block_good(file: &[u8], set: Set, number: u8, p: usize) -> bool
-    requires { (set ≡ set_of (routines file.now).N (routines file.now).B) × (1 ≤ p) × (p ≤ most_processes) × (block_bytes * p ≤ length file.now) }
-    ensures { result ≡ block_good file.now number p }
+// The first block, from 0, that breaks a field rule.
+pub(crate) fn wrong_fields(set: Set, blocks: &[Block]) -> Option<usize>
+    ensures { IsFirstBad (λ i. fields_right set.processes set.bases (i + 1) (get_or blocks.now i [])) (length blocks.now) result }
 {
-    if number == 2 {
-        return check_good(file, p);
-    }
-    fields_good(file, set, p)
-}
-
-// The first block that breaks the number's rule, or N + 1.
-fn first_bad(file: &[u8], set: Set, number: u8) -> usize
-    requires { (set ≡ set_of (routines file.now).N (routines file.now).B) × (set.processes ≤ most_processes) × (block_bytes * set.processes ≤ length file.now) }
-    ensures { result ≡ first_block (block_good file.now number) set.processes }
-{
-    let n = set.processes;
-    let mut p = 1;
-    while p <= n {
-        if !block_good(file, set, number, p) {
-            return p;
-        }
-        p += 1;
-    }
-    p
-}
-
-// N and B of a file of whole blocks.
-pub(crate) fn set_of(file: &[u8]) -> Set
-    requires { block_bytes ≤ length file.now }
-    ensures { result ≡ set_of (routines file.now).N (routines file.now).B }
-{
-    Set::new(file.len() / Set::BLOCK, wide(file[3]))
-}
-
-// Number 1, 2 or 3, in this order, or number 0.
-pub(crate) fn file_refusal(file: &[u8]) -> Refusal
-    ensures { result ≡ file_refusal file.now }
-{
-    if !length_good(file.len()) {
-        return Refusal::new(1, 0, 0);
-    }
-    let set = set_of(file);
-    let n = set.processes;
-    let wrong = first_bad(file, set, 2);
-    if wrong <= n {
-        return Refusal::new(2, wrong, 0);
-    }
-    let bad = first_bad(file, set, 3);
-    if bad <= n {
-        return Refusal::new(3, bad, 0);
-    }
-    Refusal::none()
+    blocks
+        .iter()
+        .enumerate()
+        .position(|(i, block)| !fields_right(set, i + 1, block))
 }

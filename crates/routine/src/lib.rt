@@ -10,52 +10,42 @@ pub mod calls;
 mod check;
 mod fields;
 mod file;
+pub mod good_file;
 pub mod holds;
 pub mod range;
 pub mod refusal;
 pub mod set;
 mod walk;
 
+use file::{length_good, set_of, wrong_check, wrong_fields};
+pub use good_file::GoodFile;
 pub use refusal::Refusal;
 pub use set::Set;
-
-// What the reader answers: what the file is about, or why it is refused.
-#[derive(Clone, Copy)]
-pub enum Reading {
-    Good(Set),
-    Refused(Refusal),
-}
-
-// What the judge answers.
-#[derive(Clone, Copy)]
-pub enum Verdict {
-    Passes,
-    Refused(Refusal),
-}
+use walk::judgement;
 
 // Reads any bytes: refusals 1, 2, 3, in this order.
-pub fn read(file: &[u8]) -> Reading
+#[tactic(auto, using(crate::proofs::Refused::gives_1, crate::proofs::Refused::length_means))]
+pub fn read(file: &[u8]) -> Result<Set, Refusal>
     ensures { result ≡ reading file.now }
 {
-    let refusal = file::file_refusal(file);
-    if refusal.number != 0 {
-        return Reading::Refused(refusal);
+    if !length_good(file.len()) {
+        return Err(Refusal::Length);
     }
-    Reading::Good(file::set_of(file))
+    let (blocks, _) = file.as_chunks();
+    if let Some(i) = wrong_check(blocks) {
+        return Err(Refusal::Check(i + 1));
+    }
+    let set = set_of(blocks);
+    if let Some(i) = wrong_fields(set, blocks) {
+        return Err(Refusal::Fields(i + 1));
+    }
+    Ok(set)
 }
 
 // Judges any bytes: refusals 1, 2, 3, then 4 with the first failing call in file order.
-pub fn judge(file: &[u8]) -> Verdict
+#[tactic(auto, using(crate::proofs::Passing::judge_walks, crate::proofs::Passing::file_refused, crate::proofs::Refused::refused_is, crate::proofs::Refused::good_is, crate::specs::Refusal::handed_on))]
+pub fn judge(file: &[u8]) -> Result<(), Refusal>
     ensures { result ≡ judging file.now }
 {
-    match read(file) {
-        Reading::Refused(refusal) => Verdict::Refused(refusal),
-        Reading::Good(set) => {
-            let found = walk::judgement(file, set);
-            if found.number != 0 {
-                return Verdict::Refused(found);
-            }
-            Verdict::Passes
-        }
-    }
+    judgement(GoodFile::read(file)?)
 }

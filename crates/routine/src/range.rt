@@ -2,11 +2,9 @@ ghost use Rattle.std.specs.Prelude.{◌≡◌};
 ghost use Rattle.routine.specs.Test.{within};
 
 // Whether v is low to high.
+#[tactic(auto, unfolding(crate::specs::Test::within, crate::specs::Test::and))]
 pub fn within(low: usize, high: usize, v: usize) -> bool
     ensures { result ≡ within low high v }
 {
-    if v < low {
-        return false;
-    }
-    v <= high
+    (low..=high).contains(&v)
 }

@@ -2,14 +2,14 @@ ghost use Rattle.std.specs.Prelude.{◌≡◌};
 ghost use Rattle.routine.specs.Limits.{limits, set_of};
 
 // What a good routine file is about: N processes that share B bases.
-#[derive(Clone, Copy)]
+#[derive(Clone, Copy, Debug, PartialEq, Eq)]
 pub struct Set {
     pub processes: usize,
     pub bases: usize,
 }
 
 // The limits of a set as a value, each field the constant of the same name.
-#[derive(Clone, Copy)]
+#[derive(Clone, Copy, Debug, PartialEq, Eq)]
 pub struct Limits {
     pub processes: usize,
     pub bases: usize,

@@ -1,90 +1,64 @@
-ghost use Rattle.std.specs.Prelude.{◌≡◌, not, eqb, ltb};
-ghost use Rattle.routine.specs.Test.{implies};
+ghost use Rattle.std.specs.Prelude.{◌≡◌, ℕ, ◌-◌, ◌<◌, ◌≤◌, ◌↔◌, IsTrue, slice_index, Result};
+ghost use Rattle.routine.specs.Limits.{most_bases};
 ghost use Rattle.routine.specs.Routines.{routines, free};
 ghost use Rattle.routine.specs.Rows.{mark_in};
-ghost use Rattle.routine.specs.Rules.{WellFormed};
-ghost use Rattle.routine.specs.Judging.{only_lower, call_good, nothing_held, judgement};
+ghost use Rattle.routine.specs.Refusal.{unless};
+ghost use Rattle.routine.specs.Judging.{call_good, judgement};
 
-use crate::calls::{Call, call_at, calls_in};
-use crate::holds::{FREE, Mark, Row, fine, mark_in, marked};
+use crate::calls::Call;
+use crate::good_file::GoodFile;
+use crate::holds::{FREE, Row, fine, mark_in, marked};
 use crate::refusal::Refusal;
 use crate::set::Set;
 
-// Whether base c, which has this mark, is free or has a number below b.
-fn free_or_lower(mark: Mark, c: usize, b: usize) -> bool
-    ensures { result ≡ implies (not (eqb mark free)) (ltb c b) }
-{
-    if mark == FREE {
-        return true;
-    }
-    c < b
-}
-
 // Whether every base held has a number below b.
 fn only_lower(row: Row, b: usize) -> bool
-    ensures { result ≡ only_lower (mark_in row) b }
+    ensures { IsTrue result ↔ ((i : ℕ) → b - 1 ≤ i → i < most_bases → slice_index row i ≡ free) }
 {
-    let mut c = 1;
-    while c <= Set::BASES {
-        if !free_or_lower(mark_in(row, c), c, b) {
-            return false;
-        }
-        c += 1;
-    }
-    true
+    row.iter()
+        .skip(b.saturating_sub(1))
+        .all(|mark| *mark == FREE)
 }
 
 fn nothing_held(row: Row) -> bool
-    ensures { result ≡ nothing_held (mark_in row) }
+    ensures { IsTrue result ↔ ((i : ℕ) → i < most_bases → slice_index row i ≡ free) }
 {
-    let mut c = 1;
-    while c <= Set::BASES {
-        let held = mark_in(row, c);
-        if held != FREE {
-            return false;
-        }
-        c += 1;
-    }
-    true
+    row.iter().all(|mark| *mark == FREE)
 }
 
-// Whether a call of this kind on base b is good where the row is held.
-fn call_good(row: Row, kind: usize, b: usize) -> bool
-    ensures { result ≡ call_good (mark_in row) kind b }
+// Whether a call is good where the row is held.
+#[tactic(auto, unfolding(crate::specs::Judging::call_good, crate::specs::Judging::is_take))]
+fn call_good(row: Row, call: Call) -> bool
+    ensures { result ≡ call_good (mark_in row) call.kind call.base }
 {
-    if kind <= Call::READLOCK {
-        return only_lower(row, b);
+    if call.kind <= Call::READLOCK {
+        return only_lower(row, call.base);
     }
-    fine(kind, mark_in(row, b))
+    fine(call.kind, mark_in(row, call.base))
 }
 
-// Refusal 4 with the first failing call in file order, or number 0.
-pub(crate) fn judgement(file: &[u8], set: Set) -> Refusal
-    requires { (WellFormed (routines file.now)) × (set.processes ≡ (routines file.now).N) }
-    ensures { result ≡ judgement (routines file.now) }
+// Refusal 4 with the first failing call in file order.
+#[tactic(auto, unfolding(crate::specs::Judging::failing_block, crate::specs::Reading::first_block))]
+pub(crate) fn judgement(file: GoodFile<'_>) -> Result<(), Refusal>
+    ensures { result ≡ unless (judgement (routines file.entry.bytes.now)) tt }
 {
-    let n = set.processes;
-    let mut found = Refusal::none();
-    let mut p = 1;
-    'walk: while p <= n {
-        let calls = calls_in(file, p);
+    let mut verdict = Ok(());
+    'walk: for p in 1..=file.processes() {
+        let calls = file.calls_in(p);
         let mut row = [FREE; Set::BASES];
-        let mut k = 0;
-        while k < calls {
-            let call = call_at(file, p, k);
-            if !call_good(row, call.kind, call.base) {
-                found = Refusal::new(4, p, k + 1);
+        for k in 0..calls {
+            let call = file.call_at(p, k).unwrap();
+            if !call_good(row, call) {
+                verdict = Err(Refusal::Routine(p, k + 1));
                 break 'walk;
             }
             let next = marked(row, call.kind, call.base);
             row = next;
-            k += 1;
         }
         if !nothing_held(row) {
-            found = Refusal::new(4, p, calls + 1);
+            verdict = Err(Refusal::Routine(p, calls + 1));
             break 'walk;
         }
-        p += 1;
     }
-    found
+    verdict
 }

@@ -4,3 +4,4 @@ pub mod Bounds
 pub mod Moves
 pub mod Orders
 pub mod Numbers
+pub mod Settled

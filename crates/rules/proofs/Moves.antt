@@ -1,42 +1,42 @@
 -- Whether a process moves: its own words decide.
 use mathlib.Core.Path.{◌≡◌, refl}
 use mathlib.Core.Logic.{◌≢◌}
-use mathlib.Core.Bool.{true, false, cond}
+use mathlib.Core.Bool.{true, false}
 use mathlib.Core.List.{List}
 use Prim.Native.Nat.{ℕ, zero, suc, ◌≤◌, ◌<◌}
 use native.Mathlib.Omega.{arith}
 use lib.Dec.{eqb}
 use borrow.Author.Tests.{eqb-true, eqb-false, eq-eqb, ne_eqb}
+use Rattle.std.specs.Prelude.{None, is_some}
 use Rattle.routine.specs.Test.{by_test}
-use Rattle.routine.specs.Routines.{Routines, base_now}
+use Rattle.routine.specs.Routines.{Routines}
 use Rattle.routine.specs.Rules.{WellFormed}
 use Rattle.routine.proofs.Holding.{kind_end, call_now}
 use Rattle.rules.specs.declared.Words.{Words}
-use Rattle.rules.specs.declared.Next.TheVariants as Nx
-use Rattle.rules.specs.Table.{call, phase, wake, words_at, put_words}
-use Rattle.rules.specs.Turn.{start, await, next, notified, next_at, settle, turned, is_move, moves}
+use Rattle.rules.specs.Table.{call, phase, wake, words_at}
+use Rattle.rules.specs.Turn.{start, await, next, next_at, moves}
 use Rattle.rules.proofs.Sentences.{Consistent}
 use Rattle.rules.proofs.Bounds.{finished_phase}
 
 module _ (p kind old : ℕ) (w : Words) where
-  idle_finished : w.phase ≡ 0 → kind ≡ 0 → next p kind old w ≡ Nx.Idle
+  idle_finished : w.phase ≡ 0 → kind ≡ 0 → next p kind old w ≡ None
   unfolding next start
   idle_finished e k = simp (eq-eqb _ _ e, eq-eqb _ _ k)
 
-  moves_start : w.phase ≡ 0 → kind ≢ 0 → is_move (next p kind old w) ≡ true
-  unfolding next start is_move
+  moves_start : w.phase ≡ 0 → kind ≢ 0 → is_some (next p kind old w) ≡ true
+  unfolding next start
   moves_start e k = simp (eq-eqb _ _ e, ne_eqb _ _ k)
 
-  moves_await : w.phase ≡ 5 → is_move (next p kind old w) ≡ eqb w.wake 1
-  unfolding next await is_move
+  moves_await : w.phase ≡ 5 → is_some (next p kind old w) ≡ eqb w.wake 1
+  unfolding next await
   moves_await e = simp e (by_test (eqb w.wake 1) (λ f. simp f) (λ f. simp f))
 
-  idle_stopped : w.phase ≡ 7 → is_move (next p kind old w) ≡ false
-  unfolding next is_move
+  idle_stopped : w.phase ≡ 7 → is_some (next p kind old w) ≡ false
+  unfolding next
   idle_stopped e = simp e
 
-  moves_in : (ph : ℕ) → w.phase ≡ ph → ph ≢ 0 → ph ≢ 5 → ph ≤ 6 → is_move (next p kind old w) ≡ true
-  unfolding next is_move
+  moves_in : (ph : ℕ) → w.phase ≡ ph → ph ≢ 0 → ph ≢ 5 → ph ≤ 6 → is_some (next p kind old w) ≡ true
+  unfolding next
   moves_in zero e n0 n5 h = absurd (n0 refl)
   moves_in (suc zero) e n0 n5 h = simp e
   moves_in (suc (suc zero)) e n0 n5 h = simp e
@@ -46,12 +46,12 @@ module _ (p kind old : ℕ) (w : Words) where
   moves_in (suc (suc (suc (suc (suc (suc zero)))))) e n0 n5 h = simp e
   moves_in (suc (suc (suc (suc (suc (suc (suc ph))))))) e n0 n5 h = absurd (omega arith)
 
-  moves_else : w.phase ≢ 0 → w.phase ≢ 5 → w.phase ≤ 6 → is_move (next p kind old w) ≡ true
+  moves_else : w.phase ≢ 0 → w.phase ≢ 5 → w.phase ≤ 6 → is_some (next p kind old w) ≡ true
   moves_else = moves_in w.phase refl
 
 module _ (S : Routines) (g : WellFormed S) (t : List ℕ) (o : Consistent S t) (p : ℕ) (lo : 1 ≤ p) (hi : p ≤ S.N) where
   -- a finished process idles, and so its turn leaves the table itself
-  pub finished_idle : S.calls p ≤ call t p → next_at S t p ≡ Nx.Idle
+  pub finished_idle : S.calls p ≤ call t p → next_at S t p ≡ None
   unfolding next_at words_at
   finished_idle h = idle_finished p _ _ _ (finished_phase S g t o p lo hi h) (kind_end S p (call t p) h)
 
@@ -69,15 +69,3 @@ module _ (S : Routines) (g : WellFormed S) (t : List ℕ) (o : Consistent S t) (
       by_test (eqb (phase t p) 0)
       (λ e. moves_start p _ _ _ (eqb-true _ _ e) (λ z. let k = call_now S g p (call t p) lo hi h in omega arith))
       (λ e. let n0 = eqb-false (phase t p) 0 e in moves_else p _ _ _ n0 n5 (omega (arith, (o.process p lo hi).phase_low)))
-
--- ---- a turn, from what it leaves of the words that it looked at
-
-module _ (S : Routines) (t : List ℕ) (p : ℕ) where
-  pub idle_turn : next_at S t p ≡ Nx.Idle → (moves S t p ≡ false) × (turned S t p ≡ t)
-  unfolding moves turned is_move settle
-  idle_turn e = (simp e, simp e)
-
-  pub moved_turn : (x : Words) → next_at S t p ≡ Nx.Moved x
-      → (moves S t p ≡ true) × (turned S t p ≡ put_words (cond (eqb (phase t p) 6) (notified S (base_now S p (call t p)) t S.N) t) (base_now S p (call t p)) p x)
-  unfolding moves turned is_move settle
-  moved_turn x e = (simp e, simp e)

@@ -1,3 +1,4 @@
+pub mod Phase
 pub mod Table
 pub mod Consistent
 pub mod Turn

@@ -1,15 +1,13 @@
 -- One turn: a definition for each line of "One turn", in its order.
-use Rattle.std.specs.Prelude.{Bool, true, false, cond, List, ℕ, zero, suc, ◌+◌, ◌-◌, eqb}
+use Rattle.std.specs.Prelude.{Bool, cond, List, ℕ, zero, suc, ◌+◌, ◌-◌, eqb, Option, Some, None, is_some}
 use Rattle.routine.specs.Test.{and}
 use Rattle.routine.specs.Routines.{Routines, kind_now, base_now, modlock, unlock, fine}
 use Rattle.routine.specs.Judging.{is_take}
 use Rattle.rules.specs.declared.Words.{Words}
 use Rattle.rules.specs.Table.{call, phase, entry, words_at, put_marks, put_words}
 use Rattle.rules.specs.Consistent.{mark_now}
-use Rattle.rules.specs.declared.Next.{Next}
-use Rattle.rules.specs.declared.Next.TheVariants as Nx
 
--- ---- the words that a turn looks at, with some of them changed
+-- ---- the words that a turn looks at, with some of them changed; a turn that is idle leaves none
 
 unfoldable pub with_base : ℕ → ℕ → ℕ → Words → Words
 with_base l n c w = record { lock = l; nomore = n; count = c; call = w.call; phase = w.phase; wake = w.wake; entry = w.entry }
@@ -50,8 +48,8 @@ unfoldable pub begin : ℕ → ℕ → Words → Words
 begin p kind w = cond (is_take kind) (take p kind w) (cond (eqb kind unlock) (release w) (lessen w))
 
 -- "Phase 0, finished: idle. Phase 0, logic error: phase 7"
-unfoldable pub start : ℕ → ℕ → ℕ → Words → Next
-start p kind old w = cond (eqb kind 0) Nx.Idle (Nx.Moved (cond (fine kind old) (begin p kind w) (to_phase 7 w)))
+unfoldable pub start : ℕ → ℕ → ℕ → Words → Option Words
+start p kind old w = cond (eqb kind 0) None (Some (cond (fine kind old) (begin p kind w) (to_phase 7 w)))
 
 -- "Phase 1: ENTRY becomes 1, phase 2"
 unfoldable pub enlist : Words → Words
@@ -70,22 +68,22 @@ unfoldable pub switch : Words → Words
 switch w = to_phase 5 (with_base w.lock 1 w.count w)
 
 -- "Phase 5: with WAKE 1, WAKE becomes 0 and the phase 0; otherwise idle"
-unfoldable pub await : Words → Next
-await w = cond (eqb w.wake 1) (Nx.Moved (to_phase 0 (with_marks 0 w.entry w))) Nx.Idle
+unfoldable pub await : Words → Option Words
+await w = cond (eqb w.wake 1) (Some (to_phase 0 (with_marks 0 w.entry w))) None
 
 -- what a turn of process p leaves, where its current call is of this kind and its completed calls leave the mark old on that call's base
-unfoldable pub next : ℕ → ℕ → ℕ → Words → Next
+unfoldable pub next : ℕ → ℕ → ℕ → Words → Option Words
 next p kind old w =
     cond (eqb w.phase 0) (start p kind old w)
-    (cond (eqb w.phase 1) (Nx.Moved (enlist w))
-    (cond (eqb w.phase 2) (Nx.Moved (retry p kind w))
-    (cond (eqb w.phase 3) (Nx.Moved (delist w))
-    (cond (eqb w.phase 4) (Nx.Moved (switch w))
+    (cond (eqb w.phase 1) (Some (enlist w))
+    (cond (eqb w.phase 2) (Some (retry p kind w))
+    (cond (eqb w.phase 3) (Some (delist w))
+    (cond (eqb w.phase 4) (Some (switch w))
     (cond (eqb w.phase 5) (await w)
     -- "Phase 6: .. the call is complete"
-    (cond (eqb w.phase 6) (Nx.Moved (completed w))
+    (cond (eqb w.phase 6) (Some (completed w))
     -- "Phase 7: idle"
-    Nx.Idle))))))
+    None))))))
 
 -- ---- the whole table
 
@@ -99,22 +97,18 @@ notified S b t zero = t
 notified S b t (suc q) = cond (waits S (notified S b t q) b (suc q)) (put_marks (notified S b t q) (suc q) 1 0) (notified S b t q)
 
 -- what a turn of p leaves of the words that it looks at
-unfoldable pub next_at : Routines → List ℕ → ℕ → Next
+unfoldable pub next_at : Routines → List ℕ → ℕ → Option Words
 next_at S t p = next p (kind_now S p (call t p)) (mark_now S p (call t p)) (words_at t (base_now S p (call t p)) p)
 
 -- the words put back, where phase 6 notifies first
-unfoldable pub settle : Routines → List ℕ → ℕ → Next → List ℕ
-settle S t p (Nx.Moved w) = put_words (cond (eqb (phase t p) 6) (notified S (base_now S p (call t p)) t S.N) t) (base_now S p (call t p)) p w
-settle S t p Nx.Idle = t
+unfoldable pub settle : Routines → List ℕ → ℕ → Option Words → List ℕ
+settle S t p (Some w) = put_words (cond (eqb (phase t p) 6) (notified S (base_now S p (call t p)) t S.N) t) (base_now S p (call t p)) p w
+settle S t p None = t
 
 -- the table after a turn of p
 unfoldable pub turned : Routines → List ℕ → ℕ → List ℕ
 turned S t p = settle S t p (next_at S t p)
 
 -- whether a turn of p moves
-unfoldable pub is_move : Next → Bool
-is_move (Nx.Moved w) = true
-is_move Nx.Idle = false
-
 unfoldable pub moves : Routines → List ℕ → ℕ → Bool
-moves S t p = is_move (next_at S t p)
+moves S t p = is_some (next_at S t p)

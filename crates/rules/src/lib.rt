@@ -1,10 +1,12 @@
 // What the state table is, when it is consistent, and what one turn does: the types and, in specs/, the definitions. The code stands in `words`, `consistency` and `interlock`.
 #![tactic(auto)]
 
-use routine::Refusal;
+mod phase;
+
+pub use phase::{NoPhase, Phase};
 
 // The words of a base and of a process, which a turn looks at.
-#[derive(Clone, Copy)]
+#[derive(Clone, Copy, Debug, PartialEq, Eq)]
 pub struct Words {
     pub lock: u16,
     pub nomore: u16,
@@ -15,31 +17,17 @@ pub struct Words {
     pub entry: u16,
 }
 
-// What a turn leaves of the words that it looked at.
-#[derive(Clone, Copy)]
-pub enum Next {
-    Moved(Words),
-    Idle,
-}
-
-// What the fresh-table call answers.
-#[derive(Clone, Copy)]
-pub enum Made {
-    Fresh,
-    Refused(Refusal),
-}
-
-// What a turn answers.
-#[derive(Clone, Copy)]
+// What a turn that is not refused answers.
+#[derive(Clone, Copy, Debug, PartialEq, Eq)]
 pub enum Answer {
     Moved,
     Idle,
-    Refused(Refusal),
 }
 
-// What the standing answers: 0, every routine finished; 1, some process would move; 2, neither.
-#[derive(Clone, Copy)]
+// What the standing that is not refused answers: every routine finished; not so, and some process would move; neither.
+#[derive(Clone, Copy, Debug, PartialEq, Eq)]
 pub enum Standing {
-    Is(u8),
-    Refused(Refusal),
+    Finished,
+    Moving,
+    Stuck,
 }

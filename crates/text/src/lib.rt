@@ -1,102 +1,122 @@
-// Text in a lent buffer: each function puts its bytes from a place on, as far as there is room, and answers the place after them.
+// Text in a lent buffer.
 #![tactic(auto)]
 
-ghost use Rattle.std.specs.Prelude.{◌∷◌, [], ◌+◌, ◌<◌};
-ghost use Rattle.text.specs.Put.{Put};
+ghost use Rattle.std.specs.Prelude.{◌≡◌, ◌∷◌, [], ◌++◌};
 ghost use Rattle.text.specs.Digits.{decimal, hexadecimal};
 ghost use Rattle.text.specs.Lines.{field, last_field, header, turn_line, refused_line, standing_line};
+ghost use Rattle.text.specs.Text.{text_bytes, text_end, text_name, Puts};
 
-pub fn put_byte(out: &mut [u8], at: usize, byte: u8) -> usize
-    ensures { Put out.old out.new at (byte ∷ []) result }
-{
-    if at < out.len() {
-        out[at] = byte;
-        return at + 1;
+// Each method puts its bytes behind the text so far, as far as there is room.
+#[derive(Drop)]
+pub struct Text<'a> {
+    buffer: &'a mut [u8],
+    end: usize,
+}
+
+impl<'a> Text<'a> {
+    // A text that begins at any place, also past the buffer's end.
+    pub fn new(buffer: &'a mut [u8], end: usize) -> Text<'a>
+        ensures same { text_name result ≡ buffer.entry.ghost_name }
+        ensures bytes { text_bytes result ≡ buffer.old }
+        ensures end { text_end result ≡ end }
+    {
+        Text { buffer, end }
     }
-    at
-}
 
-pub fn put_bytes(out: &mut [u8], at: usize, bytes: &[u8]) -> usize
-    ensures { Put out.old out.new at bytes.now result }
-{
-    let mut end = at;
-    let mut i = 0;
-    while i < bytes.len() {
-        end = put_byte(out, end, bytes[i]);
-        i += 1;
+    // The place after the text.
+    pub fn end(&self) -> usize
+        ensures { result ≡ text_end self.now }
+    {
+        self.end
     }
-    end
-}
 
-pub fn put_decimal(out: &mut [u8], at: usize, n: usize) -> usize
-    ensures { Put out.old out.new at (decimal n) result }
-{
-    let mut digits = [0; 20];
-    let k = io::decimal(n as u64, &mut digits);
-    put_bytes(out, at, &digits[..k])
-}
+    pub fn put_byte(&mut self, byte: u8)
+        ensures { Puts self.old self.new (byte ∷ []) }
+    {
+        // No get_mut: after it the proof knows nothing of what was written.
+        if self.end < self.buffer.len() {
+            self.buffer[self.end] = byte;
+            self.end += 1;
+        }
+    }
 
-pub fn put_hexadecimal(out: &mut [u8], at: usize, word: u16) -> usize
-    ensures { Put out.old out.new at (hexadecimal word) result }
-{
-    let mut digits = [0; 16];
-    let k = io::hex(word as u64, 4, &mut digits);
-    put_bytes(out, at, &digits[..k])
-}
+    pub fn put_bytes(&mut self, bytes: &[u8])
+        ensures { Puts self.old self.new bytes.now }
+    {
+        // Byte by byte: copying the part that fits costs more.
+        for &byte in bytes {
+            self.put_byte(byte);
+        }
+    }
 
-// A number, and the space that parts it from the next field.
-pub fn put_field(out: &mut [u8], at: usize, n: usize) -> usize
-    ensures { Put out.old out.new at (field n) result }
-{
-    let next = put_decimal(out, at, n);
-    put_byte(out, next, b' ')
-}
+    pub fn put_decimal(&mut self, n: usize)
+        ensures { Puts self.old self.new (decimal n) }
+    {
+        let mut digits = [0; 20];
+        // No Display: what is written by it is known only where it answers Ok. The language has no From<usize> for u64.
+        let k = io::decimal(n as u64, &mut digits);
+        self.put_bytes(&digits[..k]);
+    }
 
-// A number that ends its line.
-pub fn put_last(out: &mut [u8], at: usize, n: usize) -> usize
-    ensures { Put out.old out.new at (last_field n) result }
-{
-    let next = put_decimal(out, at, n);
-    put_byte(out, next, b'\n')
-}
+    pub fn put_hexadecimal(&mut self, word: u16)
+        ensures { Puts self.old self.new (hexadecimal word) }
+    {
+        let mut digits = [0; 16];
+        let k = io::hex(u64::from(word), 4, &mut digits);
+        self.put_bytes(&digits[..k]);
+    }
 
-pub fn put_header(out: &mut [u8], at: usize) -> usize
-    ensures { Put out.old out.new at header result }
-{
-    put_bytes(out, at, b"TURN PROC CALL PHASE DID\n")
-}
+    // A number, and the space that parts it from the next field.
+    pub fn put_field(&mut self, n: usize)
+        ensures { Puts self.old self.new (field n) }
+    {
+        self.put_number(n, b' ');
+    }
 
-// The line of a turn, with the word that tells its answer.
-pub fn put_turn(
-    out: &mut [u8],
-    at: usize,
-    number: usize,
-    process: usize,
-    call: usize,
-    phase: usize,
-    word: &[u8],
-) -> usize
-    ensures { Put out.old out.new at (turn_line number process call phase word.now) result }
-{
-    let second = put_field(out, at, number);
-    let third = put_field(out, second, process);
-    let fourth = put_field(out, third, call);
-    let fifth = put_field(out, fourth, phase);
-    let end = put_bytes(out, fifth, word);
-    put_byte(out, end, b'\n')
-}
+    // A number that ends its line.
+    pub fn put_last(&mut self, n: usize)
+        ensures { Puts self.old self.new (last_field n) }
+    {
+        self.put_number(n, b'\n');
+    }
 
-pub fn put_refused(out: &mut [u8], at: usize, number: usize, block: usize) -> usize
-    ensures { Put out.old out.new at (refused_line number block) result }
-{
-    let next = put_bytes(out, at, b"REFUSED ");
-    let last = put_field(out, next, number);
-    put_last(out, last, block)
-}
+    fn put_number(&mut self, n: usize, last: u8)
+        ensures { Puts self.old self.new (decimal n ++ last ∷ []) }
+    {
+        self.put_decimal(n);
+        self.put_byte(last);
+    }
 
-pub fn put_standing(out: &mut [u8], at: usize, number: usize) -> usize
-    ensures { Put out.old out.new at (standing_line number) result }
-{
-    let next = put_bytes(out, at, b"STANDING ");
-    put_last(out, next, number)
+    pub fn put_header(&mut self)
+        ensures { Puts self.old self.new header }
+    {
+        self.put_bytes(b"TURN PROC CALL PHASE DID\n");
+    }
+
+    // The line of a turn, with the word that tells its answer.
+    pub fn put_turn(&mut self, turn: usize, process: usize, call: usize, phase: usize, word: &[u8])
+        ensures { Puts self.old self.new (turn_line turn process call phase word.now) }
+    {
+        self.put_field(turn);
+        self.put_field(process);
+        self.put_field(call);
+        self.put_field(phase);
+        self.put_bytes(word);
+        self.put_byte(b'\n');
+    }
+
+    pub fn put_refused(&mut self, number: usize, block: usize)
+        ensures { Puts self.old self.new (refused_line number block) }
+    {
+        self.put_bytes(b"REFUSED ");
+        self.put_field(number);
+        self.put_last(block);
+    }
+
+    pub fn put_standing(&mut self, number: usize)
+        ensures { Puts self.old self.new (standing_line number) }
+    {
+        self.put_bytes(b"STANDING ");
+        self.put_last(number);
+    }
 }

@@ -1,15 +1,10 @@
 -- A trial in the input: one byte op, a file with its length in 16 bits before it, words with their number in 16 bits before them, and a process number of 32 bits; all low byte first.
-use Rattle.std.specs.Prelude.{◌≡◌, refl, Bool, true, false, cond, List, ℕ, zero, suc, ◌+◌, ◌*◌, ◌≤◌, ltb, length, get_or, set, take, replicate}
-use Rattle.std.proofs.Common.{ap, arith, length-take-le, ltb-false}
-use Rattle.std.proofs.lemmas.List.{length-replicate}
-use Rattle.routine.specs.Test.{within}
-use Rattle.trialing.specs.declared.trial.Trial.{Trial}
-use Rattle.trialing.specs.declared.trial.Next.{Next}
-use Rattle.trialing.specs.declared.trial.Next.TheVariants.{Whole, Cut, Stop}
-
--- the ops: 1 read, 2 judge, 3 fresh, 4 turn, 5 standing
-abbrev pub most_ops : ℕ
-most_ops = 5
+use Rattle.std.specs.Prelude.{◌≡◌, refl, cond, List, ℕ, zero, suc, ◌+◌, ◌*◌, eqb, ltb, length, get_or, set, take, drop, Result, Ok, Err}
+use Rattle.std.proofs.Common.{sym, ap, ◌∙◌, arith, eqb-true}
+use Rattle.routine.specs.Test.{by_test}
+use Rattle.trialing.specs.declared.trial.Op.{Op}
+use Rattle.trialing.specs.declared.trial.Ending.{Ending}
+use Rattle.trialing.specs.declared.trial.Ending.TheVariants.{Cut, Stop}
 
 abbrev pub most_file : ℕ
 most_file = 8192
@@ -17,84 +12,89 @@ most_file = 8192
 abbrev pub most_words : ℕ
 most_words = 256
 
+unfoldable pub op_number : Op → ℕ
+op_number Op.Read = 1
+op_number Op.Judge = 2
+op_number Op.Fresh = 3
+op_number Op.Turn = 4
+op_number Op.Standing = 5
+
+-- the op of a byte
+unfoldable pub op_of : ℕ → Result Op Ending
+op_of b =
+    cond (eqb b 1) (Ok Op.Read)
+    (cond (eqb b 2) (Ok Op.Judge)
+    (cond (eqb b 3) (Ok Op.Fresh)
+    (cond (eqb b 4) (Ok Op.Turn)
+    (cond (eqb b 5) (Ok Op.Standing)
+    (Err Stop)))))
+
 unfoldable pub number : List ℕ → ℕ → ℕ
 number l i = get_or l i 0 + 256 * get_or l (i + 1) 0
 
 unfoldable pub long_number : List ℕ → ℕ → ℕ
 long_number l i = number l i + 65536 * number l (i + 2)
 
--- the bytes of a trial with a file of f bytes and w words
-abbrev pub size_of : ℕ → ℕ → ℕ
-size_of f w = f + 2 * w + 9
+-- what stands in the input: a trial may go on after its end, or is none, for its op or its size
+unfoldable pub op_at : List ℕ → Result Op Ending
+op_at l = cond (ltb (length l) 1) (Err Cut) (op_of (get_or l 0 0))
+
+unfoldable pub number_at : List ℕ → ℕ → ℕ → Result ℕ Ending
+number_at l i most = cond (ltb (length l) (i + 2)) (Err Cut) (cond (ltb most (number l i)) (Err Stop) (Ok (number l i)))
+
+unfoldable pub long_at : List ℕ → ℕ → Result ℕ Ending
+long_at l i = cond (ltb (length l) (i + 4)) (Err Cut) (Ok (long_number l i))
+
+infixl 10 ◌>>=◌
+abbrev pub ◌>>=◌ : {A B : Type 0} → Result A Ending → (A → Result B Ending) → Result B Ending
+Ok a >>= f = f a
+Err e >>= f = Err e
+
+-- what a trial tells: its op, its file, the bytes of its words, and its process number
+pub record Told : Type 0 where
+  pub op : Op
+  pub file : List ℕ
+  pub words : List ℕ
+  pub process : ℕ
+
+abbrev pub told : Op → List ℕ → List ℕ → ℕ → Told
+told op file words process = record { op = op; file = file; words = words; process = process }
+
+-- the trial at the start of the input
+unfoldable pub trial_at : List ℕ → Result Told Ending
+trial_at l = do
+  op ← op_at l
+  file ← number_at l 1 most_file
+  words ← number_at l (3 + file) most_words
+  process ← long_at l (5 + file + 2 * words)
+  Ok (told op (take file (drop 3 l)) (take (2 * words) (drop (5 + file) l)) process)
+
+-- the bytes that a trial with this file and these words takes
+abbrev pub size_of : List ℕ → List ℕ → ℕ
+size_of file words = length file + length words + 9
 
 -- the words that stand in these bytes, in place of the first n of a table
 unfoldable pub loaded : List ℕ → List ℕ → ℕ → List ℕ
 loaded l t zero = t
 loaded l t (suc i) = set (loaded l t i) i (number l (2 * i))
 
-abbrev pub trial_of : List ℕ → ℕ → ℕ → ℕ → Trial
-trial_of l at f w = record { op = get_or l at 0; file = f; words = w; process = long_number l (at + 5 + f + 2 * w) }
-
--- what stands at a place of the input: a whole trial; one that may go on after the end; or none, for its op or its size
-unfoldable pub whole_at : List ℕ → ℕ → ℕ → ℕ → Next
-whole_at l at f w = cond (ltb (length l) (at + size_of f w)) Cut (Whole (trial_of l at f w))
-
-unfoldable pub words_at : List ℕ → ℕ → ℕ → Next
-words_at l at f = cond (ltb (length l) (at + 5 + f)) Cut (cond (ltb most_words (number l (at + 3 + f))) Stop (whole_at l at f (number l (at + 3 + f))))
-
-unfoldable pub file_at : List ℕ → ℕ → Next
-file_at l at = cond (ltb (length l) (at + 3)) Cut (cond (ltb most_file (number l (at + 1))) Stop (words_at l at (number l (at + 1))))
-
-unfoldable pub trial_at : List ℕ → ℕ → Next
-trial_at l at = cond (ltb (length l) (at + 1)) Cut (cond (within 1 most_ops (get_or l at 0)) (file_at l at) Stop)
-
 -- ---- laws
 
--- a trial that stands in the input, from a place on
-pub record Stands (l : List ℕ) (at : ℕ) (t : Trial) : Type 0 where
-  pub whole : at + size_of t.file t.words ≤ length l
-  pub few_words : t.words ≤ most_words
+-- a byte gives the op whose number it is
+op_given : (op : Op) → op_of (op_number op) ≡ Ok op
+unfolding op_of op_number
+op_given Op.Read = refl
+op_given Op.Judge = refl
+op_given Op.Fresh = refl
+op_given Op.Turn = refl
+op_given Op.Standing = refl
 
-module _ (x : Next) (t : Trial) where
-  cut : (b : Bool) → cond b Cut x ≡ Whole t → (b ≡ false) × (x ≡ Whole t)
-  cut true e = let z : ◌≡◌ {A = ℕ} 0 1 = cc in absurd (omega arith)
-  cut false e = (refl, e)
+given_here : (b : ℕ) (own op : Op) (rest : Result Op Ending) → (rest ≡ Ok op → op_number op ≡ b) → cond (eqb b (op_number own)) (Ok own) rest ≡ Ok op → op_number op ≡ b
+given_here b own op rest next h =
+    by_test (eqb b (op_number own))
+    (λ e. let here : ◌≡◌ {A = Result Op Ending} (Ok own) (Ok op) = rw e at h in let is : own ≡ op = cc in ap op_number (sym is) ∙ sym (eqb-true _ _ e))
+    (λ e. next (rw e at h))
 
-  stop : (b : Bool) → cond b Stop x ≡ Whole t → (b ≡ false) × (x ≡ Whole t)
-  stop true e = let z : ◌≡◌ {A = ℕ} 0 1 = cc in absurd (omega arith)
-  stop false e = (refl, e)
-
-  good : (b : Bool) → cond b x Stop ≡ Whole t → x ≡ Whole t
-  good true e = e
-  good false e = let z : ◌≡◌ {A = ℕ} 0 1 = cc in absurd (omega arith)
-
-same : (s t : Trial) → Whole s ≡ Whole t → s ≡ t
-same s t e = cc
-
-from_whole : (l : List ℕ) (at f w : ℕ) (t : Trial) → w ≤ most_words → whole_at l at f w ≡ Whole t → Stands l at t
-unfolding whole_at
-from_whole l at f w t few e =
-    let h = cut _ t (ltb (length l) (at + size_of f w)) e in
-    let is = same (trial_of l at f w) t h.1 in
-    record {
-      whole = omega (arith, ap (λ z. z.file) is, ap (λ z. z.words) is, ltb-false (length l) (at + size_of f w) h.0);
-      few_words = omega (arith, ap (λ z. z.words) is);
-    }
-
-from_words : (l : List ℕ) (at f : ℕ) (t : Trial) → words_at l at f ≡ Whole t → Stands l at t
-unfolding words_at
-from_words l at f t e =
-    let h = stop _ t (ltb most_words (number l (at + 3 + f))) (cut _ t (ltb (length l) (at + 5 + f)) e).1 in
-    from_whole l at f (number l (at + 3 + f)) t (ltb-false _ _ h.0) h.1
-
-from_file : (l : List ℕ) (at : ℕ) (t : Trial) → file_at l at ≡ Whole t → Stands l at t
-unfolding file_at
-from_file l at t e = from_words l at (number l (at + 1)) t (stop _ t (ltb most_file (number l (at + 1))) (cut _ t (ltb (length l) (at + 3)) e).1).1
-
-pub stands : (l : List ℕ) (at : ℕ) (t : Trial) → trial_at l at ≡ Whole t → Stands l at t
-unfolding trial_at
-stands l at t e = from_file l at t (good _ t (within 1 most_ops (get_or l at 0)) (cut _ t (ltb (length l) (at + 1)) e).1)
-
--- the first words of a whole table
-pub part_long : (n : ℕ) → n ≤ most_words → length (take n (replicate {A = ℕ} most_words 0)) ≡ n
-part_long n h = length-take-le n (replicate most_words 0) (rw (length-replicate {A = ℕ} most_words 0) h)
+number_given : (b : ℕ) (op : Op) → op_of b ≡ Ok op → op_number op ≡ b
+unfolding op_of op_number
+number_given b op h = given_here b Op.Read op _ (given_here b Op.Judge op _ (given_here b Op.Fresh op _ (given_here b Op.Turn op _ (given_here b Op.Standing op _ (λ e. let z : ◌≡◌ {A = ℕ} 0 1 = cc in absurd (omega arith)))))) h

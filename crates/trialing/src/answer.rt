@@ -1,140 +1,128 @@
-ghost use Rattle.std.specs.Prelude.{◌≡◌, ◌+◌, ◌<◌, ◌≤◌, length};
+ghost use Rattle.std.specs.Prelude.{◌≡◌, ◌+◌, ◌≤◌, length};
 ghost use Rattle.routine.specs.Reading.{reading};
 ghost use Rattle.routine.specs.Judging.{judging};
-ghost use Rattle.rules.specs.declared.Standing.TheVariants as St;
 ghost use Rattle.rules.specs.Answers.{making, made_table, turning, turned_table, standing};
-ghost use Rattle.text.specs.Wrote.{Wrote};
-ghost use Rattle.text.specs.Put.{Put};
-ghost use Rattle.trialing.specs.Answers.{refusal_text, set_text, read_text, judge_text, made_text, turn_text, standing_text, table_text, answer_text, trial_line, answer_room, line_room};
+ghost use Rattle.rules.specs.Standing.{standing_number};
+ghost use Rattle.text.specs.Text.{text_bytes, text_end, Puts, Writes};
+ghost use Rattle.trialing.specs.Answers.{PutsSaid, said, refusal_text, set_text, did_text, stands_text, passes, fresh, table_text, call_said, call_table, answer_text, trial_line, answer_room, line_room};
 ghost use Rattle.trialing.specs.Trial.{most_words};
 
-use routine::{Reading, Refusal, Set, Verdict};
-use rules::{Answer, Made, Standing};
+use crate::trial::{Op, Trial};
+use routine::Refusal;
+use routine::refusal::Shown;
+use rules::{Answer, Standing};
+use text::Text;
 
-fn put_refusal(refusal: Refusal, out: &mut [u8], at: usize) -> usize
-    ensures { Put out.old out.new at (refusal_text refusal) result }
+fn put_read(text: &mut Text, file: &[u8]) -> Result<(), Refusal>
+    ensures { PutsSaid text.old text.new (said set_text (reading file.now)) result }
 {
-    let first = text::put_bytes(out, at, b"REFUSED ");
-    let second = text::put_field(out, first, refusal.number as usize);
-    let third = text::put_field(out, second, refusal.block);
-    text::put_decimal(out, third, refusal.place)
+    let set = routine::read(file)?;
+    text.put_bytes(b"READ ");
+    text.put_field(set.processes);
+    text.put_decimal(set.bases);
+    Ok(())
 }
 
-fn put_set(set: Set, out: &mut [u8], at: usize) -> usize
-    ensures { Put out.old out.new at (set_text set) result }
+fn put_judge(text: &mut Text, file: &[u8]) -> Result<(), Refusal>
+    ensures { PutsSaid text.old text.new (said (λ _. passes) (judging file.now)) result }
 {
-    let first = text::put_bytes(out, at, b"READ ");
-    let second = text::put_field(out, first, set.processes);
-    text::put_decimal(out, second, set.bases)
+    routine::judge(file)?;
+    text.put_bytes(b"PASSES");
+    Ok(())
 }
 
-fn put_read(file: &[u8], out: &mut [u8], at: usize) -> usize
-    ensures { Put out.old out.new at (read_text (reading file.now)) result }
+fn put_fresh(text: &mut Text, table: &mut [u16]) -> Result<(), Refusal>
+    ensures said { PutsSaid text.old text.new (said (λ _. fresh) (making table.old)) result }
+    ensures table { table.new ≡ made_table table.old }
 {
-    match routine::read(file) {
-        Reading::Good(set) => put_set(set, out, at),
-        Reading::Refused(refusal) => put_refusal(refusal, out, at),
+    interlock::fresh(table)?;
+    text.put_bytes(b"FRESH");
+    Ok(())
+}
+
+fn put_turn(text: &mut Text, file: &[u8], table: &mut [u16], process: usize) -> Result<(), Refusal>
+    ensures said { PutsSaid text.old text.new (said did_text (turning file.now table.old process)) result }
+    ensures table { table.new ≡ turned_table file.now table.old process }
+{
+    match interlock::turn(file, table, process)? {
+        Answer::Moved => text.put_bytes(b"MOVED"),
+        Answer::Idle => text.put_bytes(b"IDLE"),
+    }
+    Ok(())
+}
+
+fn standing_number(standing: Standing) -> usize
+    ensures { result ≡ standing_number standing }
+{
+    match standing {
+        Standing::Finished => 0,
+        Standing::Moving => 1,
+        Standing::Stuck => 2,
     }
 }
 
-fn put_judge(file: &[u8], out: &mut [u8], at: usize) -> usize
-    ensures { Put out.old out.new at (judge_text (judging file.now)) result }
+fn put_standing(text: &mut Text, file: &[u8], table: &[u16]) -> Result<(), Refusal>
+    ensures { PutsSaid text.old text.new (said stands_text (standing file.now table.now)) result }
 {
-    match routine::judge(file) {
-        Verdict::Passes => text::put_bytes(out, at, b"PASSES"),
-        Verdict::Refused(refusal) => put_refusal(refusal, out, at),
+    let standing = interlock::standing(file, table)?;
+    text.put_bytes(b"STANDING ");
+    text.put_decimal(standing_number(standing));
+    Ok(())
+}
+
+// Puts what the call answers, if it refuses nothing.
+fn put_call(text: &mut Text, trial: Trial, table: &mut [u16]) -> Result<(), Refusal>
+    ensures said { PutsSaid text.old text.new (call_said trial.entry.op trial.entry.file.now table.old trial.entry.process) result }
+    ensures table { table.new ≡ call_table trial.entry.op trial.entry.file.now table.old trial.entry.process }
+{
+    match trial.op {
+        Op::Read => put_read(text, trial.file),
+        Op::Judge => put_judge(text, trial.file),
+        Op::Fresh => put_fresh(text, table),
+        Op::Turn => put_turn(text, trial.file, table, trial.process),
+        Op::Standing => put_standing(text, trial.file, table),
     }
 }
 
-fn put_fresh(table: &mut [u16], out: &mut [u8], at: usize) -> usize
-    ensures { Put out.old out.new at (made_text (making table.old)) result × (table.new ≡ made_table table.old) }
+fn put_refusal(text: &mut Text, refusal: Refusal)
+    ensures { Puts text.old text.new (refusal_text refusal) }
 {
-    match interlock::fresh(table) {
-        Made::Fresh => text::put_bytes(out, at, b"FRESH"),
-        Made::Refused(refusal) => put_refusal(refusal, out, at),
+    let shown = Shown::from(refusal);
+    text.put_bytes(b"REFUSED ");
+    text.put_field(usize::from(shown.number));
+    text.put_field(shown.block);
+    text.put_decimal(shown.place);
+}
+
+fn put_table(text: &mut Text, table: &[u16])
+    ensures { Puts text.old text.new (table_text table.now) }
+{
+    for &word in table {
+        text.put_byte(b' ');
+        text.put_hexadecimal(word);
     }
 }
 
-fn put_turn(file: &[u8], table: &mut [u16], process: usize, out: &mut [u8], at: usize) -> usize
-    ensures { Put out.old out.new at (turn_text (turning file.now table.old process)) result × (table.new ≡ turned_table file.now table.old process) }
+fn put_answer(text: &mut Text, trial: Trial, table: &mut [u16])
+    ensures puts { Puts text.old text.new (answer_text trial.entry.op trial.entry.file.now table.old trial.entry.process) }
+    ensures short { length table.old ≤ most_words → length (answer_text trial.entry.op trial.entry.file.now table.old trial.entry.process) ≤ answer_room }
 {
-    match interlock::turn(file, table, process) {
-        Answer::Moved => text::put_bytes(out, at, b"MOVED"),
-        Answer::Idle => text::put_bytes(out, at, b"IDLE"),
-        Answer::Refused(refusal) => put_refusal(refusal, out, at),
+    if let Err(refusal) = put_call(text, trial, table) {
+        put_refusal(text, refusal);
+    }
+    if let Op::Fresh | Op::Turn = trial.op {
+        put_table(text, table);
     }
 }
 
-fn put_number(number: u8, out: &mut [u8], at: usize) -> usize
-    ensures { Put out.old out.new at (standing_text (St.Is number)) result }
+// The line of a trial whose words are in the table.
+pub(crate) fn put_line(text: &mut Text, trial: Trial, table: &mut [u16])
+    requires room { text_end text.old + line_room ≤ length (text_bytes text.old) }
+    requires few_words { length table.old ≤ most_words }
+    ensures writes { Writes text.old text.new (trial_line trial.entry.op trial.entry.file.now table.old trial.entry.process) }
+    ensures short { text_end text.new ≤ text_end text.old + line_room }
 {
-    let next = text::put_bytes(out, at, b"STANDING ");
-    text::put_decimal(out, next, number as usize)
-}
-
-fn put_standing(file: &[u8], table: &[u16], out: &mut [u8], at: usize) -> usize
-    ensures { Put out.old out.new at (standing_text (standing file.now table.now)) result }
-{
-    match interlock::standing(file, table) {
-        Standing::Is(number) => put_number(number, out, at),
-        Standing::Refused(refusal) => put_refusal(refusal, out, at),
-    }
-}
-
-fn put_table(table: &[u16], out: &mut [u8], at: usize) -> usize
-    ensures { Put out.old out.new at (table_text table.now) result }
-{
-    let mut end = at;
-    let mut i = 0;
-    while i < table.len() {
-        let next = text::put_byte(out, end, b' ');
-        end = text::put_hexadecimal(out, next, table[i]);
-        i += 1;
-    }
-    end
-}
-
-fn put_answer(
-    op: u8,
-    file: &[u8],
-    table: &mut [u16],
-    process: usize,
-    out: &mut [u8],
-    at: usize,
-) -> usize
-    requires { (at + answer_room ≤ length out.old) × (length table.old ≤ most_words) }
-    ensures { Wrote out.old out.new at (answer_text op file.now table.old process) result × (result ≤ at + answer_room) }
-{
-    if op == 1 {
-        return put_read(file, out, at);
-    }
-    if op == 2 {
-        return put_judge(file, out, at);
-    }
-    if op == 3 {
-        let end = put_fresh(table, out, at);
-        return put_table(table, out, end);
-    }
-    if op == 4 {
-        let end = put_turn(file, table, process, out, at);
-        return put_table(table, out, end);
-    }
-    put_standing(file, table, out, at)
-}
-
-// The line of a trial.
-pub(crate) fn put_line(
-    op: u8,
-    file: &[u8],
-    table: &mut [u16],
-    process: usize,
-    out: &mut [u8],
-    at: usize,
-) -> usize
-    requires { (at + line_room ≤ length out.old) × (length table.old ≤ most_words) }
-    ensures { Wrote out.old out.new at (trial_line op file.now table.old process) result × (result ≤ at + line_room) }
-{
-    let next = text::put_field(out, at, op as usize);
-    let end = put_answer(op, file, table, process, out, next);
-    text::put_byte(out, end, b'\n')
+    text.put_field(usize::from(trial.op));
+    put_answer(text, trial, table);
+    text.put_byte(b'\n');
 }

@@ -1,28 +1,13 @@
-ghost use Rattle.std.specs.Prelude.{◌≡◌, ◌+◌, ◌*◌, ◌<◌, ◌≤◌, length, IfOk, OnErr};
+ghost use Rattle.std.specs.Prelude.{◌≡◌, ◌+◌, ◌≤◌, length, IfOk, IfSome, OnErr};
 ghost use Rattle.io.specs.Counts.{IsPrefixLen};
-ghost use Rattle.trialing.specs.Trial.{Stands};
 ghost use Rattle.trialing.specs.Answers.{line_room};
 
 use crate::answer::put_line;
-use crate::trial::{Next, Trial, load, trial_at};
+use crate::trial::{Ending, Trial, load};
 use files::read_full;
 use std::fs::File;
 use std::io::Print;
-
-// How far the input is answered, where the lines of it end, and whether what follows is no trial.
-#[derive(Clone, Copy)]
-struct Answered {
-    at: usize,
-    end: usize,
-    stop: bool,
-}
-
-// Whether the input goes on, and how many bytes at the start of the window are still to be answered.
-#[derive(Clone, Copy)]
-struct Window {
-    left: usize,
-    on: bool,
-}
+use text::Text;
 
 // Nothing says that an input ends, so the windows are counted.
 const WINDOWS: usize = 0xffff_ffff;
@@ -43,90 +28,38 @@ fn with_room(rt: &HostRuntime, out: &[u8], end: usize) -> std::io::Result<usize>
 }
 
 // Loads the words of a trial into a table that has so many, and answers the trial.
-fn put_loaded(
-    input: &[u8],
-    at: usize,
-    trial: Trial,
-    table: &mut [u16],
-    out: &mut [u8],
-    end: usize,
-) -> usize
-    requires { Stands input.now at trial × (length table.old ≡ trial.words) × (end + line_room ≤ length out.old) }
-    ensures { result ≤ length out.new }
-{
-    let file = at + 3;
-    let count = file + trial.file;
-    let words = count + 2;
-    let process = words + 2 * trial.words;
-    load(&input[words..process], table);
-    put_line(
-        trial.op,
-        &input[file..count],
-        table,
-        trial.process,
-        out,
-        end,
-    )
-}
-
-fn put_trial(input: &[u8], at: usize, trial: Trial, out: &mut [u8], end: usize) -> usize
-    requires { Stands input.now at trial × (end + line_room ≤ length out.old) }
+fn put_trial(trial: Trial, out: &mut [u8], start: usize) -> usize
+    requires { start + line_room ≤ length out.old }
     ensures { result ≤ length out.new }
 {
     let mut table = [0; Trial::WORDS];
-    let n = trial.words;
-    put_loaded(input, at, trial, &mut table[..n], out, end)
+    let table = &mut table[..trial.words.len() / 2];
+    load(trial.words, table);
+    let mut text = Text::new(out, start);
+    put_line(&mut text, trial, table);
+    text.end()
 }
 
-// Answers the whole trials of a window.
-fn answer_all(rt: &HostRuntime, input: &[u8], out: &mut [u8]) -> std::io::Result<Answered>
+// Answers the whole trials of a window: how many bytes they take, and what ends them.
+fn answer_all(rt: &HostRuntime, input: &[u8], out: &mut [u8]) -> std::io::Result<(usize, Ending)>
     requires { line_room ≤ length out.old }
-    ensures ok { IfOk result (λ a. (a.at ≤ length input.now) × IsPrefixLen a.end out.new) }
+    ensures ok { IfOk result (λ a. a.0 ≤ length input.now) }
     ensures err { OnErr result (length out.new ≡ length out.old) }
 {
     let mut at = 0;
     let mut end = 0;
-    while at < input.len() {
-        match trial_at(input, at) {
-            Next::Whole(trial) => {
+    let ending = loop {
+        match Trial::read(&input[at..]) {
+            Ok(trial) => {
                 let start = with_room(rt, out, end)?;
-                end = put_trial(input, at, trial, out, start);
-                at += trial.file + 2 * trial.words + 9;
+                end = put_trial(trial, out, start);
+                at += trial.size();
             }
-            Next::Cut => {
-                return Ok(Answered {
-                    at,
-                    end,
-                    stop: false,
-                });
-            }
-            Next::Stop => {
-                return Ok(Answered {
-                    at,
-                    end,
-                    stop: true,
-                });
-            }
+            Err(ending) => break ending,
         }
-    }
-    Ok(Answered {
-        at,
-        end,
-        stop: false,
-    })
-}
-
-// The bytes from a place up to another, moved to the start.
-fn move_down(input: &mut [u8], from: usize, to: usize) -> usize
-    requires { (from ≤ to) × (to ≤ length input.old) }
-    ensures { result ≤ length input.new }
-{
-    let mut i = 0;
-    while i < to - from {
-        input[i] = input[from + i];
-        i += 1;
-    }
-    i
+    };
+    rt.stdout().write_all(&out[..end])?;
+    Ok((at, ending))
 }
 
 // Reads on behind the bytes that are left: the bytes that are there then.
@@ -137,58 +70,46 @@ fn fill(file: &mut File, input: &mut [u8], left: usize) -> usize
     left + read_full(file, &mut input[left..])
 }
 
-// Fills the window and answers.
+// Fills the window and answers. Where the input goes on: how many bytes at the start of the window are still to be answered.
 fn answer_window(
     rt: &HostRuntime,
     file: &mut File,
     input: &mut [u8],
     left: usize,
     out: &mut [u8],
-) -> std::io::Result<Window>
+) -> std::io::Result<Option<usize>>
     requires { (left ≤ length input.old) × (line_room ≤ length out.old) }
-    ensures ok { IfOk result (λ w. w.left ≤ length input.new) }
+    ensures ok { IfOk result (λ on. IfSome on (λ left. left ≤ length input.new)) }
     ensures err { OnErr result ((length input.new ≡ length input.old) × (length out.new ≡ length out.old)) }
 {
     let filled = fill(file, input, left);
-    let answered = answer_all(rt, &input[..filled], out)?;
-    let at = answered.at;
-    let end = answered.end;
-    rt.stdout().write_all(&out[..end])?;
-    if answered.stop {
-        rt.stdout().write_all(b"STOP\n")?;
-        return Ok(Window { left: 0, on: false });
-    }
-    if filled == input.len() {
-        return Ok(Window {
-            left: move_down(input, at, filled),
-            on: true,
-        });
+    let (at, ending) = answer_all(rt, &input[..filled], out)?;
+    if ending == Ending::Cut && filled == input.len() {
+        input.copy_within(at..filled, 0);
+        return Ok(Some(filled - at));
     }
     if at < filled {
         rt.stdout().write_all(b"STOP\n")?;
     }
-    Ok(Window { left: 0, on: false })
+    Ok(None)
 }
 
 fn answer_file(rt: &HostRuntime, file: &mut File) -> std::io::Result<()> {
     let mut input = io::large_buffer();
     let mut out = io::large_buffer();
     let mut left = 0;
-    let mut windows = WINDOWS;
-    while 0 < windows {
-        let next = answer_window(rt, file, &mut input, left, &mut out)?;
-        if !next.on {
+    for _ in 0..WINDOWS {
+        let Some(more) = answer_window(rt, file, &mut input, left, &mut out)? else {
             break;
-        }
-        left = next.left;
-        windows -= 1;
+        };
+        left = more;
     }
     Ok(())
 }
 
 pub fn run(rt: &HostRuntime) -> std::io::Result<()> {
-    match File::open(rt, "trials.bin") {
-        Ok(mut file) => answer_file(rt, &mut file),
-        Err(_) => Ok(()),
-    }
+    let Ok(mut file) = File::open(rt, "trials.bin") else {
+        return Ok(());
+    };
+    answer_file(rt, &mut file)
 }

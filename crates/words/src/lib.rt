@@ -1,143 +1,167 @@
 // The named words of a state table, for a table of any length and any base and process: a word past the table's end reads as 0 and is not written.
-#![tactic(auto)]
+#![tactic(auto, unfolding(rules::specs::Table::lock, rules::specs::Table::nomore, rules::specs::Table::count, rules::specs::Table::call, rules::specs::Table::phase, rules::specs::Table::wake, rules::specs::Table::entry, rules::specs::Table::base_at, rules::specs::Table::process_at, rules::specs::Table::words_at, rules::specs::Table::put_base, rules::specs::Table::put_marks, rules::specs::Table::put_process, rules::specs::Table::put_words))]
 
-ghost use Rattle.std.specs.Prelude.{◌≡◌, ◌<◌, get_or, set};
-ghost use Rattle.rules.specs.Table.{lock, nomore, count, call, phase, wake, entry, words_at, put_marks, put_words, base_at, process_at};
-ghost use Rattle.words.specs.Placed.{Placed};
+ghost use Rattle.std.specs.Prelude.{◌≡◌, ◌<◌, ◌-◌, ◌^◌, min, get_or, set};
+ghost use Rattle.rules.specs.Table.{lock, nomore, count, call, phase, wake, entry, words_at, put_marks, put_words};
+ghost use Rattle.words.specs.Place.{place};
 
 use routine::Set;
 use rules::Words;
 
-// Where the words of base b stand, or past the table's end.
-fn base_at(table: &[u16], b: usize) -> usize
-    ensures { Placed table.now (base_at b) result }
-{
-    if b == 0 {
-        return 0;
-    }
-    // The product is worked out only where it stays small.
-    if table.len() < b {
-        return table.len();
-    }
-    Set::BASE_WORDS * (b - 1)
+// A word that each base or each process has: that of number 1 is word `first` of the table, and that of each next number `step` words on.
+#[derive(Clone, Copy)]
+struct Field {
+    first: usize,
+    step: usize,
 }
 
-// Where the words of process p stand, or past the table's end.
-fn process_at(table: &[u16], p: usize) -> usize
-    ensures { Placed table.now (process_at p) result }
-{
-    if p == 0 {
-        return Set::BASE_WORDS * Set::BASES;
+const LOCK: Field = Field {
+    first: 0,
+    step: Set::BASE_WORDS,
+};
+
+const NOMORE: Field = Field {
+    first: 1,
+    step: Set::BASE_WORDS,
+};
+
+const COUNT: Field = Field {
+    first: 2,
+    step: Set::BASE_WORDS,
+};
+
+// Where the words of process 1 begin.
+const PROCESSES: usize = Set::BASE_WORDS * Set::BASES;
+
+const CALL: Field = Field {
+    first: PROCESSES,
+    step: Set::PROCESS_WORDS,
+};
+
+const PHASE: Field = Field {
+    first: PROCESSES + 1,
+    step: Set::PROCESS_WORDS,
+};
+
+const WAKE: Field = Field {
+    first: PROCESSES + 2,
+    step: Set::PROCESS_WORDS,
+};
+
+const ENTRY: Field = Field {
+    first: PROCESSES + 3,
+    step: Set::PROCESS_WORDS,
+};
+
+impl Field {
+    // Where the word of number n stands, or, if that is past the machine's numbers, the largest of these, which no table reaches.
+    fn place(self, n: usize) -> usize
+        ensures { result ≡ min (place self n) (2 ^ 64 - 1) }
+    {
+        n.saturating_sub(1)
+            .saturating_mul(self.step)
+            .saturating_add(self.first)
     }
-    // The product is worked out only where it stays small.
-    if table.len() / Set::PROCESS_WORDS < p {
-        return table.len();
+
+    fn of(self, table: &[u16], n: usize) -> u16
+        ensures { result ≡ get_or table.now (place self n) 0 }
+    {
+        table.get(self.place(n)).copied().unwrap_or(0)
     }
-    Set::BASE_WORDS * Set::BASES + Set::PROCESS_WORDS * (p - 1)
+
+    fn put(self, table: &mut [u16], n: usize, word: u16)
+        ensures { table.new ≡ set table.old (place self n) word }
+    {
+        let i = self.place(n);
+        // No get_mut: after it the proof knows the table's length only.
+        if i < table.len() {
+            table[i] = word;
+        }
+    }
 }
 
-fn word(table: &[u16], i: usize) -> u16
-    ensures { result ≡ get_or table.now i 0 }
-{
-    if i < table.len() {
-        return table[i];
-    }
-    0
-}
-
-fn put(table: &mut [u16], i: usize, word: u16)
-    ensures { table.new ≡ set table.old i word }
-{
-    if i < table.len() {
-        table[i] = word;
-    }
-}
-
-// A word as a number.
+// A word as a number: `usize::from` by a name that docs/CONTRACTS.md has.
 pub fn wide(x: u16) -> usize
     ensures { (result ≡ x) × (result < 65536) }
 {
-    x as usize
+    usize::from(x)
 }
+
+// The words by name, each a line over its field.
 
 pub fn lock(table: &[u16], b: usize) -> u16
     ensures { result ≡ lock table.now b }
 {
-    word(table, base_at(table, b))
+    LOCK.of(table, b)
 }
 
 pub fn nomore(table: &[u16], b: usize) -> u16
     ensures { result ≡ nomore table.now b }
 {
-    word(table, base_at(table, b) + 1)
+    NOMORE.of(table, b)
 }
 
 pub fn count(table: &[u16], b: usize) -> u16
     ensures { result ≡ count table.now b }
 {
-    word(table, base_at(table, b) + 2)
+    COUNT.of(table, b)
 }
 
 pub fn call(table: &[u16], p: usize) -> usize
     ensures { (result ≡ call table.now p) × (result < 65536) }
 {
-    wide(word(table, process_at(table, p)))
+    usize::from(CALL.of(table, p))
 }
 
 pub fn phase(table: &[u16], p: usize) -> usize
     ensures { (result ≡ phase table.now p) × (result < 65536) }
 {
-    wide(word(table, process_at(table, p) + 1))
+    usize::from(PHASE.of(table, p))
 }
 
 pub fn wake(table: &[u16], p: usize) -> usize
     ensures { (result ≡ wake table.now p) × (result < 65536) }
 {
-    wide(word(table, process_at(table, p) + 2))
+    usize::from(WAKE.of(table, p))
 }
 
 pub fn entry(table: &[u16], p: usize) -> usize
     ensures { (result ≡ entry table.now p) × (result < 65536) }
 {
-    wide(word(table, process_at(table, p) + 3))
+    usize::from(ENTRY.of(table, p))
 }
 
 // The words of base b and of process p.
 pub fn words_at(table: &[u16], b: usize, p: usize) -> Words
     ensures { result ≡ words_at table.now b p }
 {
-    let i = base_at(table, b);
-    let j = process_at(table, p);
     Words {
-        lock: word(table, i),
-        nomore: word(table, i + 1),
-        count: word(table, i + 2),
-        call: word(table, j),
-        phase: word(table, j + 1),
-        wake: word(table, j + 2),
-        entry: word(table, j + 3),
+        lock: LOCK.of(table, b),
+        nomore: NOMORE.of(table, b),
+        count: COUNT.of(table, b),
+        call: CALL.of(table, p),
+        phase: PHASE.of(table, p),
+        wake: WAKE.of(table, p),
+        entry: ENTRY.of(table, p),
     }
 }
 
 pub fn put_words(table: &mut [u16], b: usize, p: usize, w: Words)
     ensures { table.new ≡ put_words table.old b p w }
 {
-    let i = base_at(table, b);
-    let j = process_at(table, p);
-    put(table, i, w.lock);
-    put(table, i + 1, w.nomore);
-    put(table, i + 2, w.count);
-    put(table, j, w.call);
-    put(table, j + 1, w.phase);
-    put(table, j + 2, w.wake);
-    put(table, j + 3, w.entry);
+    LOCK.put(table, b, w.lock);
+    NOMORE.put(table, b, w.nomore);
+    COUNT.put(table, b, w.count);
+    CALL.put(table, p, w.call);
+    PHASE.put(table, p, w.phase);
+    WAKE.put(table, p, w.wake);
+    ENTRY.put(table, p, w.entry);
 }
 
 // WAKE and ENTRY of process p.
 pub fn put_marks(table: &mut [u16], p: usize, wake: u16, entry: u16)
     ensures { table.new ≡ put_marks table.old p wake entry }
 {
-    let j = process_at(table, p);
-    put(table, j + 2, wake);
-    put(table, j + 3, entry);
+    WAKE.put(table, p, wake);
+    ENTRY.put(table, p, entry);
 }

@@ -1,22 +1,24 @@
-use mathlib.Core.Path.{◌≡◌, sym, ap, ◌∙◌}
-use Rattle.routine.specs.Limits.{set_of}
+use Rattle.std.proofs.Common.{◌≡◌, None, Ok, sym, ap, ◌∙◌}
+use Rattle.routine.specs.Refusal.{handed_on}
 use Rattle.routine.specs.Routines.{routines}
-use Rattle.rules.specs.declared.Standing.TheVariants.{Is, Refused}
+use Rattle.rules.specs.Standing.{standing_case}
 use Rattle.rules.specs.Answers.{table_refusal}
 use Rattle.rules.proofs.Orders.{check_refused, check_passed, first_process, ready, standing_refuses, standing_is}
 use Rattle.interlock.proofs.standing.Goals as goal
-use Rattle.interlock.proofs.standing.Goals.{In-Good}
+use Rattle.interlock.proofs.standing.Goals.{In_ok-file}
 
-passed : (c : In-Good) → ((table_refusal c.args.file.now c.args.table.now).number ≡ 0) × (c.in-Good.set ≡ set_of (routines c.args.file.now).N (routines c.args.file.now).B)
-passed c = let g = check_passed _ _ _ _ (sym c.in-Good.ensures) in (ap (λ r. r.number) (sym (first_process _ _)) ∙ g.0, g.1)
+pub returns-in_err-file : goal.returns-in_err-file
+returns-in_err-file c =
+    let r = check_refused _ _ _ _ c.in_err-file.ensures in
+    handed_on _ _ c.from_residual.ensures.1 ∙ sym (standing_refuses _ _ _ (sym (first_process _ _) ∙ r))
 
-pub stand-requires : goal.stand-requires
-stand-requires c = let g = passed c in (ready _ _ g.0, ap (λ s. s.processes) g.1)
+passed : (c : In_ok-file) → table_refusal c.args.file.now c.args.table.now ≡ None
+passed c = sym (first_process _ _) ∙ (check_passed _ _ _ _ c.in_ok-file.ensures.0).0
 
-pub returns-in-Refused : goal.returns-in-Refused
-returns-in-Refused c =
-    let r = check_refused _ _ _ _ (sym c.in-Refused.ensures) in
-    ap Refused (sym r.0) ∙ sym (standing_refuses _ _ _ r.1 (sym (first_process _ _)))
+pub invariant_of-stand : goal.invariant_of-stand
+invariant_of-stand c = record { ready = rw c.in_ok-file.ensures.1 (ready _ _ (passed c)) }
 
-pub returns-in-Good : goal.returns-in-Good
-returns-in-Good c = ap Is c.stand.ensures ∙ sym (standing_is _ _ (passed (goal.at.returns-in-Good c).In-Good).0)
+pub returns : goal.returns
+returns c =
+    ap Ok (c.stand.ensures ∙ ap (λ f. standing_case (routines f) c.args.table.now) c.in_ok-file.ensures.1)
+    ∙ sym (standing_is _ _ (passed (goal.at.returns c).In_ok-file))

@@ -1,29 +1,32 @@
+use mathlib.Core.Path.{◌≡◌, refl}
+use native.Mathlib.Numerals.{add-one}
+use mathlib.Core.Bool.{true, beq}
+use lib.Dec.{eqb}
+use lib.ListN.{length, get_or}
+use mathlib.Core.List.{[]}
+use Prim.Native.Nat.{ℕ, ◌+◌, ◌<◌}
+use Rattle.std.specs.Prelude.{IsTrue, ◌↔◌, slice_index_or}
+use Rattle.std.proofs.Common.{rules}
 use borrow.Author.Tests.{le-leb, lt-leb}
-use native.Mathlib.Omega.{arith}
-use mathlib.Core.Path.{refl, sym, ◌∙◌}
 use Rattle.routine.specs.Test.{and}
-use Rattle.routine.specs.First.{first_more, walk_stops, walk_ends}
-use Rattle.consistency.specs.Holders.{lock_fits_in}
+use Rattle.routine.specs.Routines.{modifies}
+use Rattle.routine.specs.Rows.{mark_in}
+use Rattle.consistency.specs.Holders.{holder, lock_fits_in}
+use Rattle.consistency.proofs.Each.{from_0, holder_at}
 use Rattle.consistency.proofs.bases.lock_fits.Goals as goal
+use Rattle.consistency.proofs.bases.lock_fits.Goals.{After-all}
 
-pub returns-then-n-lock : goal.returns-then-n-lock
+told : (c : After-all) → IsTrue c.all.result ↔ ((i : ℕ) → i < length c.args.rows.now → beq (eqb c.args.lock (i + 1)) (eqb (mark_in (slice_index_or c.args.rows.now i []) c.args.b) modifies) ≡ true)
+told c = search rules
+
+pub returns-then-lock-rows : goal.returns-then-lock-rows
 unfolding lock_fits_in and
-returns-then-n-lock c = simp (lt-leb _ _ c.if-n-lock.true)
+returns-then-lock-rows c =
+    let l = c.args.lock in
+    let b = c.args.b in
+    simp (le-leb _ _ c.if-lock-rows.true)
+    (from_0 (λ p. beq (eqb l p) (eqb (holder c.args.rows.now p b) modifies)) _ _ (λ i. beq (eqb l (i + 1)) (eqb (mark_in (slice_index_or c.args.rows.now i []) b) modifies)) (λ i. rw (holder_at c.args.rows.now i b, add-one i) refl) (told c))
 
-pub loop-p-init : goal.loop-p-init
-loop-p-init c = (omega arith, omega arith, refl)
-
-pub returns-then-not-owner_right : goal.returns-then-not-owner_right
+pub returns-else-lock-rows : goal.returns-else-lock-rows
 unfolding lock_fits_in and
-returns-then-not-owner_right c =
-    let l = c.loop-p in
-    simp (le-leb _ _ c.if-n-lock.false) (sym (walk_stops _ 1 l.p _ l.invariant.2 (omega arith) (rw (← c.holder.ensures) (sym c.owner_right.ensures ∙ c.if-not-owner_right.true))))
-
-pub loop-p-preserved : goal.loop-p-preserved
-loop-p-preserved c =
-    let l = c.loop-p in
-    (omega arith, omega arith, sym (first_more _ l.p _ (omega arith) (rw (← c.holder.ensures) (sym c.owner_right.ensures ∙ c.if-not-owner_right.false))) ∙ l.invariant.2)
-
-pub returns : goal.returns
-unfolding lock_fits_in and
-returns c = simp (le-leb _ _ c.if-n-lock.false) (sym (walk_ends _ 1 c.loop-p.p _ c.loop-p.invariant.2 (omega arith)))
+returns-else-lock-rows c = simp (lt-leb _ _ c.if-lock-rows.false)

@@ -1,51 +1,60 @@
 use native.Mathlib.Omega.{arith}
 use native.Mathlib.Numerals.{add-one}
 use mathlib.Core.Path.{◌≡◌, refl, sym, ap, ◌∙◌}
-use Prim.Native.Nat.{ℕ, ◌+◌}
+use mathlib.Core.Bool.{Bool, true, false}
 use mathlib.Core.List.{List}
+use Prim.Native.Nat.{ℕ, ◌+◌, ◌<◌}
 use lib.ListN.{length}
+use Rattle.std.specs.Prelude.{Option, Some, None, Ok, Err}
+use Rattle.std.specs.Bool.{then_some}
 use Rattle.routine.specs.declared.calls.Call.{Call}
 use Rattle.routine.specs.Calls.{call_at}
-use Rattle.routine.specs.First.{first_more, first_here, first_end, walk_stops, walk_ends}
-use Rattle.routine.specs.Rows.{marked_row}
-use Rattle.consistency.specs.Following.{row_after, fine_in, fine_after, following, row_size}
+use Rattle.routine.specs.First.{first_in, first_more, first_here, walk_stops, walk_ends}
+use Rattle.consistency.specs.Following.{row_with, row_after, fine_in, fine_after, following, row_size}
 use Rattle.consistency.proofs.held.follow.Goals as goal
-use Rattle.consistency.proofs.held.follow.Goals.{After-fine_in}
+
+none_is : (b : Bool) (x : List ℕ) → None ≡ then_some b x → b ≡ false
+none_is true x e = cc
+none_is false x e = refl
+
+some_is : (b : Bool) (x y : List ℕ) → Some y ≡ then_some b x → (b ≡ true) × (y ≡ x)
+some_is true x y e = (refl, cc)
+some_is false x y e = (cc, cc)
+
+-- the walk has come to call j
+module _ (f row : List ℕ) (p j k : ℕ) (r : row ≡ row_after f p j) (w : first_in (fine_after f p) j k ≡ first_in (fine_after f p) 0 k) where
+  module _ (h : j < k) (o : Option Call) (e : o ≡ call_at f p j) where
+    stops : fine_in row o ≡ false → Err row ≡ following f p k
+    unfolding following fine_after
+    stops g =
+        let d : fine_in (row_after f p j) (call_at f p j) ≡ false = rw (← r, ← e) g in
+        simp (walk_stops (fine_after f p) 0 j k w h d, sym w ∙ first_here (fine_after f p) j k h d, r)
+
+    row_next : row_with row o ≡ row_after f p (j + 1)
+    unfolding row_after
+    row_next = rw (add-one j, r, e) refl
+
+    walk_next : fine_in row o ≡ true → first_in (fine_after f p) (j + 1) k ≡ first_in (fine_after f p) 0 k
+    unfolding fine_after
+    walk_next g = let d : fine_in (row_after f p j) (call_at f p j) ≡ true = rw (← r, ← e) g in sym (first_more (fine_after f p) j k h d) ∙ w
+
+  ends : j ≡ k → Ok row ≡ following f p k
+  unfolding following
+  ends e = simp (walk_ends (fine_after f p) 0 j k w e, r, e)
 
 pub loop-j-init : goal.loop-j-init
 unfolding row_after
-loop-j-init c = (omega arith, refl, refl, refl)
+loop-j-init c = (refl, refl, refl)
 
--- the code's test is that of call j
-judged : (c : After-fine_in) → c.fine_in.result ≡ fine_after c.args.file.now c.args.p c.loop-j.j
-unfolding fine_after
-judged c = c.fine_in.ensures ∙ ap (fine_in c.loop-j.row) c.call_at-call.ensures ∙ ap (λ row. fine_in row (call_at c.args.file.now c.args.p c.loop-j.j)) c.loop-j.invariant.2
-
--- the row after one call more
-row_next : (f row : List ℕ) (p j : ℕ) (x : Call) → row ≡ row_after f p j → x ≡ call_at f p j → marked_row row x.kind x.base ≡ row_after f p (j + 1)
-unfolding row_after
-row_next f row p j x r e = rw (add-one j, r, e)
-
-pub returns-then-not-fine_in : goal.returns-then-not-fine_in
-unfolding following
-returns-then-not-fine_in c =
-    let l = c.loop-j in
-    let f = sym (judged (goal.at.returns-then-not-fine_in c).After-fine_in) ∙ c.if-not-fine_in.true in
-    let s = walk_stops _ 0 l.j _ l.invariant.3 c.loop-j-test.true f in
-    let h = sym l.invariant.3 ∙ first_here _ l.j _ c.loop-j-test.true f in
-    simp (s, h, l.invariant.2)
+pub returns-in-None : goal.returns-in-None
+returns-in-None c = stops _ _ _ _ _ c.loop-j.invariant.1 c.loop-j.invariant.2 c.loop-j-test.true _ c.call_at.ensures (none_is _ _ c.in-None.ensures)
 
 pub loop-j-preserved : goal.loop-j-preserved
 loop-j-preserved c =
     let l = c.loop-j in
-    let r = c.marked-next.ensures ∙ row_next _ _ _ _ _ l.invariant.2 c.call_at-call.ensures in
-    (omega arith, ap length r ∙ row_size _ _ _, r, sym (first_more _ l.j _ c.loop-j-test.true (sym (judged (goal.at.loop-j-preserved c).After-fine_in) ∙ c.if-not-fine_in.false)) ∙ l.invariant.3)
+    let s = some_is _ _ _ c.in-Some.ensures in
+    let r = s.1 ∙ row_next _ _ _ _ _ l.invariant.1 l.invariant.2 c.loop-j-test.true _ c.call_at.ensures in
+    (ap length r ∙ row_size _ _ _, r, walk_next _ _ _ _ _ l.invariant.1 l.invariant.2 c.loop-j-test.true _ c.call_at.ensures s.0)
 
 pub returns : goal.returns
-unfolding following
-returns c =
-    let l = c.loop-j in
-    let e : l.j ≡ c.args.k = omega arith in
-    let s = walk_ends _ 0 l.j _ l.invariant.3 e in
-    let h = sym l.invariant.3 ∙ first_end _ l.j _ (omega arith) in
-    simp (s, h, l.invariant.2)
+returns c = ends _ _ _ _ _ c.loop-j.invariant.1 c.loop-j.invariant.2 (omega arith)

@@ -1,5 +1,4 @@
 use mathlib.Core.Path.{◌≡◌}
-use Prim.Native.Nat.{◌-◌, ◌≤◌}
 use lib.ListN.{length}
 use Rattle.routine.specs.Limits.{most_bases}
 use Rattle.routine.specs.First.{first_in}
@@ -8,7 +7,4 @@ use Rattle.consistency.proofs.held.follow.Given as goal
 
 -- The row is that after the first j calls, and none of them failed.
 abbrev pub invariant-loop-j : goal.invariant-loop-j
-invariant-loop-j l = (l.j ≤ l.k) × (length l.row ≡ most_bases) × (l.row ≡ row_after l.file l.p l.j) × (first_in (fine_after l.file l.p) l.j l.k ≡ first_in (fine_after l.file l.p) 0 l.k)
-
-abbrev pub decreases-loop-j : goal.decreases-loop-j
-decreases-loop-j l = l.k - l.j
+invariant-loop-j l = (length l.row ≡ most_bases) × (l.row ≡ row_after l.file l.p l.j) × (first_in (fine_after l.file l.p) l.j l.k ≡ first_in (fine_after l.file l.p) 0 l.k)

@@ -1,25 +1,16 @@
-use borrow.Author.Tests.{ne_eqb}
+-- The table's rule is one test that computes over all of it.
 use native.Mathlib.Omega.{arith}
-use mathlib.Core.Path.{◌≡◌, refl, sym}
+use mathlib.Core.Path.{◌≡◌, refl, sym, ap, ◌∙◌}
+use Rattle.std.proofs.Common.{◌⊎◌}
+use Rattle.std.proofs.lemmas.Bool.Decides.{nat_tests}
 use mathlib.Core.Bool.{Bool, true, false, beq}
-use Prim.Native.Nat.{ℕ, ◌+◌, ◌<◌}
+use Prim.Native.Nat.{ℕ, ◌≤◌, ◌<◌}
 use lib.ListN.{get_or}
 use mathlib.Core.List.{List, [], ◌∷◌}
-use Rattle.routine.specs.Test.{and, within, by_test, above_within, and_false}
+use Rattle.routine.specs.Test.{and, within}
 use Rattle.routine.specs.First.{first, every, every_at}
 use Rattle.rules.specs.Consistent.{marks_allowed}
 use Rattle.consistency.proofs.marks.marks_allowed.Goals as goal
--- The table's rule is one test that computes over all of it.
-use borrow.Author.Tests.{ne_eqb}
-use native.Mathlib.Omega.{arith}
-use mathlib.Core.Path.{◌≡◌, refl, sym}
-use mathlib.Core.Bool.{Bool, true, false, beq}
-use Prim.Native.Nat.{ℕ, ◌+◌, ◌<◌}
-use lib.ListN.{get_or}
-use mathlib.Core.List.{List, [], ◌∷◌}
-use Rattle.routine.specs.Test.{and, within, by_test, above_within, and_false}
-use Rattle.routine.specs.First.{first, every, every_at}
-use Rattle.rules.specs.Consistent.{marks_allowed}
 
 none : List (List Bool)
 none = (true ∷ false ∷ []) ∷ (false ∷ false ∷ []) ∷ []
@@ -48,22 +39,13 @@ unfolding right
 at ph w e hp hw he =
     same _ _ (every_at (right ph w) 0 2 (every_at (λ v. every (right ph v) 0 2) 0 2 (every_at (λ q. every (λ v. every (right q v) 0 2) 0 2) 0 8 rule ph (omega arith) hp) w (omega arith) hw) e (omega arith) he)
 
-pub returns-then-wake-gt1 : goal.returns-then-wake-gt1
-unfolding marks_allowed and
-returns-then-wake-gt1 c =
-    let a = c.args in
-    let b = above_within 0 1 a.wake c.if-wake-gt1.true in
-    let n = ne_eqb a.wake 0 (λ z. omega arith) in
-    by_test (within 2 5 a.phase) (λ e. simp (e, b)) (λ e. simp (e, n))
+big : (ph w e : ℕ) → (1 < w) ⊎ ((w ≤ 1) × (1 < e)) → false ≡ marks_allowed ph w e
+unfolding marks_allowed and within
+big ph w e h = grind (arith, nat_tests)
 
-pub returns-then-entry-gt1 : goal.returns-then-entry-gt1
-unfolding marks_allowed
-returns-then-entry-gt1 c =
-    let a = c.args in
-    let s = ne_eqb (a.wake + a.entry) 1 (λ z. omega arith) in
-    let n = ne_eqb a.entry 0 (λ z. omega arith) in
-    by_test (within 2 5 a.phase) (λ e. simp (e, s, and_false)) (λ e. simp (e, n, and_false))
+pub returns-then-wake-gt1 : goal.returns-then-wake-gt1
+returns-then-wake-gt1 c = big _ _ _ c.then-wake-gt1.either
 
 pub returns : goal.returns
 unfolding table none one
-returns c = at c.args.phase c.args.wake c.args.entry (omega arith) (omega arith) (omega arith)
+returns c = ap (λ i. get_or (get_or (get_or table i []) c.args.wake []) c.args.entry false) c.number.ensures.0 ∙ at _ c.args.wake c.args.entry (omega arith) (omega arith) (omega arith)

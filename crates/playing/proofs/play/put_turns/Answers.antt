@@ -1,39 +1,39 @@
-use mathlib.Core.Path.{refl, sym, ◌∙◌}
-use Prim.Native.Nat.{◌+◌}
-use borrow.Author.Tests.{not-true, not-false}
-use native.Mathlib.Omega.{arith}
-use Rattle.rules.specs.Answers.{standing}
-use Rattle.text.specs.Wrote.{rest_all, rest_less, rest_none, rest_put}
-use Rattle.playing.specs.Play.{last_short, line_on, line_off, lines_end}
-use Rattle.std.proofs.Common.{rules}
+use Rattle.std.proofs.Common.{◌≤◌, List, ℕ, ◌+◌, length, arith, Result, Err, Ok, append-nil, refl}
+use Rattle.std.specs.Prelude.{⊤}
+use Rattle.routine.specs.declared.refusal.Refusal.{Refusal}
+use Rattle.routine.specs.Refusal.{handed_on}
+use Rattle.rules.specs.declared.Standing.{Standing}
+use Rattle.text.specs.declared.Text.{Text}
+use Rattle.text.specs.Text.{text_end, text_bytes, Leaves}
+use Rattle.playing.specs.Play.{AnswerPut, PutSoFar, line_room, line_on, line_off, line_put, lines_end, refusal_short, or_refused, last_line}
 use Rattle.playing.proofs.play.put_turns.Goals as goal
 
-pub loop-i-init : goal.loop-i-init
-loop-i-init c = (omega arith, refl, refl, omega arith, rest_all _ _ _)
-
-pub put_line-step-requires : goal.put_line-step-requires
-put_line-step-requires c = omega arith
-
-pub returns-then-not-step : goal.returns-then-not-step
-returns-then-not-step c =
-    let a = c.args in
+pub returns-in_err-put_line : goal.returns-in_err-put_line
+unfolding or_refused
+returns-in_err-put_line c =
     let l = c.loop-i in
-    let step = c.put_line-step.ensures in
-    let off = line_off a.file.now l.table a.turns.now l.i c.wide.result c.wide.ensures.0 (omega arith) (sym step.on ∙ not-true _ c.if-not-step.true) in
-    (rest_none (rest_less (rw off at l.invariant.4) step.line), omega (arith, step.short, step.line.size))
+    let t = c.in_err-put_line.ensures.line in
+    let off = line_off c.args.file.now l.table c.args.turns.now l.i _ refl (omega arith) _ t.0 in
+    rw (handed_on _ _ c.from_residual.ensures.1, t.1) (record { leaves = rw off at l.invariant.0; room = omega (arith, refusal_short c.in_err-put_line.field-0.0) })
 
 pub loop-i-preserved : goal.loop-i-preserved
 loop-i-preserved c =
-    let a = c.args in
     let l = c.loop-i in
-    let step = c.put_line-step.ensures in
-    let on = line_on a.file.now l.table a.turns.now l.i c.wide.result c.wide.ensures.0 (omega arith) (sym step.on ∙ not-false _ c.if-not-step.false) in
-    (omega arith, step.line.size ∙ l.invariant.1, search rules, omega (arith, step.short, step.line.size), rw step.table (rest_less (rw on at l.invariant.4) step.line))
+    let t = c.in_ok-put_line.ensures.line in
+    let on = line_on c.args.file.now l.table c.args.turns.now l.i _ refl (omega arith) _ t.1 in
+    let p = line_put (rw (on, ← c.put_line.ensures.table) at l.invariant.0) t.2 (omega arith) in
+    (p.0, omega (arith, p.1, p.2))
+
+-- the last line
+last : {a b c : Text} {all : List ℕ} (standing : Result Standing Refusal) (r : Result ⊤ Refusal) → Leaves a b all (or_refused standing last_line) → AnswerPut b c standing last_line r → text_end b + line_room ≤ length (text_bytes b) → PutSoFar a c all r
+unfolding or_refused
+last standing (Ok u) v p room =
+    let w = rw (p.1, ← append-nil (last_line p.0)) at v in
+    let e = line_put w p.2 room in
+    record { leaves = e.0; room = omega (arith, e.1, e.2) }
+last standing (Err r) v p room = rw p.1 (record { leaves = rw p.0 at v; room = omega (arith, refusal_short r) })
 
 pub returns : goal.returns
 returns c =
-    let a = c.args in
     let l = c.loop-i in
-    let last = c.put_last.ensures in
-    let end = lines_end a.file.now l.table a.turns.now l.i (l.i + 1) (omega arith) in
-    (rest_put (rw end at l.invariant.4) last, omega (arith, last_short (standing a.file.now l.table), last.ends, last.size))
+    last _ _ (rw (lines_end c.args.file.now l.table c.args.turns.now l.i (l.i + 1) (omega arith)) at l.invariant.0) c.put_standing.ensures (omega arith)

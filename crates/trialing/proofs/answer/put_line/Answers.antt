@@ -1,22 +1,22 @@
-use native.Mathlib.Omega.{arith}
-use Rattle.text.specs.Wrote.{Wrote, then}
-use Rattle.text.specs.Put.{whole}
-use Rattle.text.specs.Lines.{field, field_most}
-use Rattle.trialing.specs.Answers.{trial_line}
+use Rattle.std.specs.Prelude.{◌≤◌, length}
+use Rattle.std.proofs.Common.{arith, length-append}
+use Rattle.text.specs.Lines.{field_most}
+use Rattle.text.specs.Text.{Writes, puts_then, puts_whole}
+use Rattle.trialing.specs.Trial.{op_number}
+use Rattle.trialing.specs.Answers.{trial_line, line_room}
 use Rattle.trialing.proofs.answer.put_line.Goals as goal
-use Rattle.trialing.proofs.answer.put_line.Goals.{After-put_field-next}
+use Rattle.trialing.proofs.answer.put_line.Goals.{After-put_byte}
 
--- the whole number of the op is there
-numbered : (c : After-put_field-next) → Wrote c.args.out.now c.put_field-next.new.out c.args.at (field c.args.op) c.put_field-next.result
-numbered c = whole c.put_field-next.ensures (omega (arith, field_most c.args.op))
-
-pub put_answer-end-requires : goal.put_answer-end-requires
-put_answer-end-requires c = omega (arith, field_most c.args.op, numbered (goal.at.put_answer-end-requires c).After-put_field-next)
-
-pub returns : goal.returns
+long : (c : After-put_byte) → length (trial_line c.args.trial.op c.args.trial.file.now c.args.table.now c.args.trial.process) ≤ line_room
 unfolding trial_line
-returns c =
-    let n = numbered (goal.at.returns c).After-put_field-next in
-    let a = c.put_answer-end.ensures in
-    let w = whole c.put_byte.ensures (omega (arith, field_most c.args.op, n, a)) in
-    (then (then n a.0) w, omega (arith, field_most c.args.op, n.ends, w.ends, a.1))
+long c = simp length-append (omega (arith, field_most (op_number c.args.trial.op), c.put_answer.ensures.short c.requires.few_words))
+
+whole : (c : After-put_byte) → Writes c.args.text.now c.put_byte.new.self (trial_line c.args.trial.op c.args.trial.file.now c.args.table.now c.args.trial.process)
+unfolding trial_line
+whole c = puts_whole (rw c.from.ensures at (puts_then (puts_then c.put_field.ensures c.put_answer.ensures.puts) c.put_byte.ensures)) (omega (arith, long c))
+
+pub returns-clause-writes : goal.returns-clause-writes
+returns-clause-writes c = whole (goal.at.returns-clause-writes c).After-put_byte
+
+pub returns-clause-short : goal.returns-clause-short
+returns-clause-short c = let p = (goal.at.returns-clause-short c).After-put_byte in omega (arith, long p, (whole p).wrote.ends)

@@ -1,10 +1,8 @@
-use mathlib.Core.Path.{◌≡◌}
-use Prim.Native.Nat.{◌-◌, ◌≤◌}
-use lib.ListN.{length}
+use Rattle.std.specs.Prelude.{◌≡◌, ◌-◌, ◌≤◌, length}
 use Rattle.trialing.proofs.stream.answer_all.Given as goal
 
-abbrev pub invariant-loop-at : goal.invariant-loop-at
-invariant-loop-at l = (l.at ≤ length l.input) × (l.end ≤ length l.out) × (length l.out ≡ length l.initial.out)
+abbrev pub invariant-loop-trial : goal.invariant-loop-trial
+invariant-loop-trial l = (l.at ≤ length l.input) × (l.end ≤ length l.out) × (length l.out ≡ length l.initial.out)
 
-abbrev pub decreases-loop-at : goal.decreases-loop-at
-decreases-loop-at l = length l.input - l.at
+abbrev pub decreases-loop-trial : goal.decreases-loop-trial
+decreases-loop-trial l = length l.input - l.at
