@@ -4,7 +4,7 @@ ghost use Rattle.rules.specs.Phase.{phase_number};
 
 use rules::Phase;
 
-// The marks that each phase allows: for each phase, then for each WAKE, whether ENTRY may be 0 and whether it may be 1.
+// A table of tables (docs/FORMS.md). The marks that each phase allows: for each phase, then for each WAKE, whether ENTRY may be 0 and whether it may be 1.
 const ALLOWED: [[[bool; 2]; 2]; 8] = [
     [[true, false], [false, false]], // 0, start
     [[true, false], [false, false]], // 1, to enlist
@@ -19,7 +19,7 @@ const ALLOWED: [[[bool; 2]; 2]; 8] = [
 fn number(phase: Phase) -> usize
     ensures { (result ≡ phase_number phase) × (result < 8) }
 {
-    phase as usize
+    usize::from(u16::from(phase))
 }
 
 pub(crate) fn marks_allowed(phase: Phase, wake: usize, entry: usize) -> bool

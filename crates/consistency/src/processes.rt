@@ -76,7 +76,7 @@ fn process_blank(table: &[u16], p: usize) -> bool
     call(table, p) == 0 && phase(table, p) == 0 && wake(table, p) == 0 && entry(table, p) == 0
 }
 
-// What process p, 1 to 8, holds, where its words are consistent; a process above N holds nothing.
+// What process p, 1 to 8, holds, where its words are consistent; a process above N holds nothing. p is a number and asked about in words: a type for it would be made anew at each step of a loop.
 pub(crate) fn process_good(file: GoodFile<'_>, table: &[u16], p: usize) -> Option<Row>
     requires { 1 ≤ p }
     ensures { Fitted process_good (routines file.entry.bytes.now) table.now p result }

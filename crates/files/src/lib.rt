@@ -11,7 +11,7 @@ pub fn read_full(file: &mut File, buffer: &mut [u8]) -> usize
     ensures { IsPrefixLen result buffer.new }
 {
     let mut done = 0;
-    // No for: nothing says how many reads come.
+    // No for: done grows by what each read brings.
     while done < buffer.len() {
         let n = file.read(&mut buffer[done..]).unwrap_or(0);
         if n == 0 {

@@ -23,6 +23,7 @@ pub fn fresh(table: &mut [u16]) -> Result<(), Refusal>
     if table.len() != Set::WORDS {
         return Err(Refusal::Words);
     }
+    // A local array, copied (docs/FORMS.md).
     let blank = [0; Set::WORDS];
     table.copy_from_slice(&blank);
     Ok(())

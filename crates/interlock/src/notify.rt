@@ -5,7 +5,7 @@ ghost use Rattle.rules.specs.Turn.{waits, notified};
 use routine::GoodFile;
 use words::{call, entry, put_marks};
 
-// Whether process q stands on the waiting list for base b.
+// Whether process q stands on the waiting list for base b. Both are asked about in words: a type for them would be made anew at each step of the loop.
 #[tactic(auto, unfolding(routine::specs::Test::and, rules::specs::Turn::waits))]
 fn waits(file: GoodFile<'_>, table: &[u16], b: usize, q: usize) -> bool
     requires { (1 ≤ b) × (1 ≤ q) × (q ≤ (routines file.bytes.now).N) }

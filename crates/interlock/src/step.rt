@@ -12,7 +12,7 @@ use routine::holds::mark_in;
 use rules::{Answer, Phase};
 use words::{call, put_words, words_at};
 
-// One turn of process p at a table that was checked.
+// One turn of process p at a table that was checked. File and table stay two: one is only read, the other is written.
 pub(crate) fn step(file: GoodFile<'_>, table: &mut [u16], p: usize) -> Answer
     requires { Ready file.bytes.now table.old × (1 ≤ p) × (p ≤ (routines file.bytes.now).N) }
     ensures answer { result ≡ cond (moves (routines file.entry.bytes.now) table.old p) An.Moved An.Idle }

@@ -17,6 +17,7 @@ pub(crate) fn put_refusal(text: &mut Text<'_>, refusal: Refusal)
     text.put_refused(usize::from(shown.number), shown.block);
 }
 
+// Fixed byte strings (docs/FORMS.md).
 #[tactic(auto, unfolding(crate::specs::Play::word))]
 fn word(answer: Answer) -> &'static [u8]
     ensures { result.now ≡ word answer }
@@ -51,6 +52,6 @@ pub(crate) fn put_standing(text: &mut Text<'_>, file: &[u8], table: &[u16]) -> R
     ensures { AnswerPut text.old text.new (standing file.now table.now) last_line result }
 {
     let standing = interlock::standing(file, table)?;
-    text.put_standing(standing as usize);
+    text.put_standing(usize::from(standing));
     Ok(())
 }

@@ -24,6 +24,7 @@ use Rattle.routine.proofs.refusal.Shown.new.Reads as shown_reads
 use Rattle.routine.proofs.refusal.Shown.none.Reads as none_reads
 use Rattle.routine.proofs.refusal.ShownFromRefusal.from.Reads as from_reads
 use Rattle.routine.proofs.good_file.GoodFile.read.Reads as good_reads
+use Rattle.routine.proofs.good_file.GoodFile.bytes.Reads as good_bytes_reads
 use Rattle.routine.proofs.good_file.GoodFile.set.Reads as good_set_reads
 use Rattle.routine.proofs.good_file.GoodFile.processes.Reads as good_processes_reads
 use Rattle.routine.proofs.good_file.GoodFile.calls_in.Reads as good_calls_reads
@@ -70,6 +71,9 @@ none_settled κs a r s x y p q = p ∙ sym q
 
 pub from_settled : (κs : Lfts 0) (a : _) (r s : _) (x y : _) → from_reads.Post κs a r x → from_reads.Post κs a s y → r ≡ s
 from_settled κs a r s x y p q = p ∙ sym q
+
+pub good_bytes_settled : (κs : Lfts 1) (a : _) (r s : _) (x y : _) → good_bytes_reads.Post κs a r x → good_bytes_reads.Post κs a s y → r.now ≡ s.now
+good_bytes_settled κs a r s x y p q = p ∙ sym q
 
 pub good_set_settled : (κs : Lfts 1) (a : _) (r s : _) (x y : _) → good_set_reads.Post κs a r x → good_set_reads.Post κs a s y → r ≡ s
 good_set_settled κs a r s x y p q = p ∙ sym q

@@ -44,6 +44,11 @@ unfoldable pub unless : {A : Type 0} → Option Refusal → A → Result A Refus
 unless None a = Ok a
 unless (Some r) a = Err r
 
+-- the numbers of the refusal that is due, or zeros
+unfoldable pub shown_first : Option Refusal → Shown
+shown_first None = none
+shown_first (Some r) = shown r
+
 -- ---- laws
 
 pub some_none : (r : Refusal) → ◌≡◌ {A = Option Refusal} (Some r) None → ⊥
@@ -80,11 +85,7 @@ unfolding unless
 ok_unless None a b e = (refl, cc)
 ok_unless (Some q) a b e = absurd (ok_err b q (sym e))
 
--- the numbers of an answer are those of the refusal that is due, or zeros
-unfoldable pub shown_first : Option Refusal → Shown
-shown_first None = none
-shown_first (Some r) = shown r
-
+-- the numbers of an answer are those of the refusal that is due
 pub numbers_unless : {A : Type 0} (o : Option Refusal) (a : A) → numbers (unless o a) ≡ shown_first o
 unfolding unless numbers shown_first
 numbers_unless None a = refl

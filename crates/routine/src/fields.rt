@@ -40,6 +40,7 @@ fn byte_good(set: Set, p: usize, block: &Block, i: usize) -> bool
 fn bad_byte(set: Set, p: usize, block: &Block) -> Option<usize>
     ensures { IsFirstBad (byte_good set.processes set.bases p block.now) checked_bytes result }
 {
+    // No find over the range: the proof does not reach its answer.
     for i in 0..Set::CHECKED {
         if !byte_good(set, p, block, i) {
             return Some(i);

@@ -3,6 +3,7 @@ ghost use Rattle.routine.specs.Routines.{mark, fine};
 ghost use Rattle.routine.specs.Rows.{mark_in, marked_row};
 
 use crate::calls::Call;
+use crate::range::within;
 use crate::set::Set;
 
 // How a process holds a base. A number and no enum: the calls below take any, and a later one may count.
@@ -46,10 +47,7 @@ pub fn fine(kind: usize, old: Mark) -> bool
 pub fn mark_in(row: Row, b: usize) -> Mark
     ensures { result ≡ mark_in row b }
 {
-    if b == 0 {
-        return FREE;
-    }
-    if Set::BASES < b {
+    if !within(1, Set::BASES, b) {
         return FREE;
     }
     row[b - 1]
@@ -60,10 +58,7 @@ pub fn mark_in(row: Row, b: usize) -> Mark
 pub fn marked(row: Row, kind: usize, b: usize) -> Row
     ensures { result ≡ marked_row row kind b }
 {
-    if b == 0 {
-        return row;
-    }
-    if Set::BASES < b {
+    if !within(1, Set::BASES, b) {
         return row;
     }
     let mut next = row;

@@ -23,7 +23,7 @@ fn only_lower(row: Row, b: usize) -> bool
 fn nothing_held(row: Row) -> bool
     ensures { IsTrue result ↔ ((i : ℕ) → i < most_bases → slice_index row i ≡ free) }
 {
-    row.iter().all(|mark| *mark == FREE)
+    only_lower(row, 1)
 }
 
 // Whether a call is good where the row is held.

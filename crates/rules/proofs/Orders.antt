@@ -23,12 +23,8 @@ use Rattle.rules.specs.Consistent.{consistent}
 use Rattle.rules.specs.Turn.{turned, moves}
 use Rattle.rules.specs.Standing.{standing_case}
 use Rattle.rules.specs.Ready.{Ready}
-use Rattle.rules.specs.Answers.{size_refusal, consistency_refusal, process_refusal, table_refusals, table_refusal, checking, standing, turn_refusal, turning, turned_table}
+use Rattle.rules.specs.Answers.{after_file, size_refusal, consistency_refusal, process_refusal, table_refusals, table_refusal, checking, standing, turn_refusal, turning, turned_table}
 use Rattle.rules.specs.declared.Answer.TheVariants as An
-
--- 5, 6 and 7 in their order, after the file's numbers
-unfoldable pub after_file : List ℕ → List ℕ → ℕ → Option Refusal
-after_file f t p = first_due (size_refusal t ∷ consistency_refusal f t ∷ process_refusal f p ∷ [])
 
 some_given : (due : Bool) (r : Refusal) → is_some (given due r) ≡ due
 unfolding given

@@ -9,9 +9,13 @@ use Rattle.rules.specs.declared.phase.NoPhase.{NoPhase}
 use Rattle.rules.specs.Phase.{phase_number}
 use Rattle.rules.proofs.phase.PhaseTryFromUsize.try_from.Reads as try_from_reads
 use Rattle.rules.proofs.phase.U16FromPhase.from.Reads as from_reads
+use Rattle.rules.proofs.UsizeFromStanding.from.Reads as standing_reads
 
 pub from_settled : (κs : Lfts 0) (a : _) (r s : _) (x y : _) → from_reads.Post κs a r x → from_reads.Post κs a s y → r ≡ s
 from_settled κs a r s x y p q = p ∙ sym q
+
+pub standing_number_settled : (κs : Lfts 0) (a : _) (r s : _) (x y : _) → standing_reads.Post κs a r x → standing_reads.Post κs a s y → r ≡ s
+standing_number_settled κs a r s x y p q = p ∙ sym q
 
 -- the phase of each number, to 7
 by_number : ℕ → Phase

@@ -56,6 +56,10 @@ standing f t = unless (table_refusal f t) (standing_case (routines f) t)
 unfoldable pub turn_refusal : List ℕ → List ℕ → ℕ → Option Refusal
 turn_refusal f t p = first_due (table_refusals f t ++ (process_refusal f p ∷ []))
 
+-- 5, 6 and 7 in their order, after the file's numbers
+unfoldable pub after_file : List ℕ → List ℕ → ℕ → Option Refusal
+after_file f t p = first_due (size_refusal t ∷ consistency_refusal f t ∷ process_refusal f p ∷ [])
+
 -- what the file is about, or why it, the table or the process number is refused
 unfoldable pub checking : List ℕ → List ℕ → ℕ → Result Set Refusal
 checking f t p = unless (turn_refusal f t p) (set_of (routines f).N (routines f).B)

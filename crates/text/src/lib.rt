@@ -6,7 +6,7 @@ ghost use Rattle.text.specs.Digits.{decimal, hexadecimal};
 ghost use Rattle.text.specs.Lines.{field, last_field, header, turn_line, refused_line, standing_line};
 ghost use Rattle.text.specs.Text.{text_bytes, text_end, text_name, Puts};
 
-// Each method puts its bytes behind the text so far, as far as there is room.
+// A text in a lent buffer, up to its end. Each put_ method puts its bytes behind the text so far, as far as there is room.
 #[derive(Drop)]
 pub struct Text<'a> {
     buffer: &'a mut [u8],
@@ -62,6 +62,7 @@ impl<'a> Text<'a> {
         ensures { Puts self.old self.new (hexadecimal word) }
     {
         let mut digits = [0; 16];
+        // No Display, as above.
         let k = io::hex(u64::from(word), 4, &mut digits);
         self.put_bytes(&digits[..k]);
     }
@@ -90,6 +91,7 @@ impl<'a> Text<'a> {
     pub fn put_header(&mut self)
         ensures { Puts self.old self.new header }
     {
+        // A fixed byte string, as REFUSED and STANDING are (docs/FORMS.md).
         self.put_bytes(b"TURN PROC CALL PHASE DID\n");
     }
 

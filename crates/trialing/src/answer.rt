@@ -2,7 +2,6 @@ ghost use Rattle.std.specs.Prelude.{◌≡◌, ◌+◌, ◌≤◌, length};
 ghost use Rattle.routine.specs.Reading.{reading};
 ghost use Rattle.routine.specs.Judging.{judging};
 ghost use Rattle.rules.specs.Answers.{making, made_table, turning, turned_table, standing};
-ghost use Rattle.rules.specs.Standing.{standing_number};
 ghost use Rattle.text.specs.Text.{text_bytes, text_end, Puts, Writes};
 ghost use Rattle.trialing.specs.Answers.{PutsSaid, said, refusal_text, set_text, did_text, stands_text, passes, fresh, table_text, call_said, call_table, answer_text, trial_line, answer_room, line_room};
 ghost use Rattle.trialing.specs.Trial.{most_words};
@@ -13,7 +12,7 @@ use routine::refusal::Shown;
 use rules::{Answer, Standing};
 use text::Text;
 
-fn put_read(text: &mut Text, file: &[u8]) -> Result<(), Refusal>
+fn put_read(text: &mut Text<'_>, file: &[u8]) -> Result<(), Refusal>
     ensures { PutsSaid text.old text.new (said set_text (reading file.now)) result }
 {
     let set = routine::read(file)?;
@@ -23,7 +22,7 @@ fn put_read(text: &mut Text, file: &[u8]) -> Result<(), Refusal>
     Ok(())
 }
 
-fn put_judge(text: &mut Text, file: &[u8]) -> Result<(), Refusal>
+fn put_judge(text: &mut Text<'_>, file: &[u8]) -> Result<(), Refusal>
     ensures { PutsSaid text.old text.new (said (λ _. passes) (judging file.now)) result }
 {
     routine::judge(file)?;
@@ -31,7 +30,7 @@ fn put_judge(text: &mut Text, file: &[u8]) -> Result<(), Refusal>
     Ok(())
 }
 
-fn put_fresh(text: &mut Text, table: &mut [u16]) -> Result<(), Refusal>
+fn put_fresh(text: &mut Text<'_>, table: &mut [u16]) -> Result<(), Refusal>
     ensures said { PutsSaid text.old text.new (said (λ _. fresh) (making table.old)) result }
     ensures table { table.new ≡ made_table table.old }
 {
@@ -40,10 +39,16 @@ fn put_fresh(text: &mut Text, table: &mut [u16]) -> Result<(), Refusal>
     Ok(())
 }
 
-fn put_turn(text: &mut Text, file: &[u8], table: &mut [u16], process: usize) -> Result<(), Refusal>
+fn put_turn(
+    text: &mut Text<'_>,
+    file: &[u8],
+    table: &mut [u16],
+    process: usize,
+) -> Result<(), Refusal>
     ensures said { PutsSaid text.old text.new (said did_text (turning file.now table.old process)) result }
     ensures table { table.new ≡ turned_table file.now table.old process }
 {
+    // The player has the same two words in a text of its own.
     match interlock::turn(file, table, process)? {
         Answer::Moved => text.put_bytes(b"MOVED"),
         Answer::Idle => text.put_bytes(b"IDLE"),
@@ -51,27 +56,17 @@ fn put_turn(text: &mut Text, file: &[u8], table: &mut [u16], process: usize) -> 
     Ok(())
 }
 
-fn standing_number(standing: Standing) -> usize
-    ensures { result ≡ standing_number standing }
-{
-    match standing {
-        Standing::Finished => 0,
-        Standing::Moving => 1,
-        Standing::Stuck => 2,
-    }
-}
-
-fn put_standing(text: &mut Text, file: &[u8], table: &[u16]) -> Result<(), Refusal>
+fn put_standing(text: &mut Text<'_>, file: &[u8], table: &[u16]) -> Result<(), Refusal>
     ensures { PutsSaid text.old text.new (said stands_text (standing file.now table.now)) result }
 {
     let standing = interlock::standing(file, table)?;
     text.put_bytes(b"STANDING ");
-    text.put_decimal(standing_number(standing));
+    text.put_decimal(usize::from(standing));
     Ok(())
 }
 
 // Puts what the call answers, if it refuses nothing.
-fn put_call(text: &mut Text, trial: Trial, table: &mut [u16]) -> Result<(), Refusal>
+fn put_call(text: &mut Text<'_>, trial: Trial, table: &mut [u16]) -> Result<(), Refusal>
     ensures said { PutsSaid text.old text.new (call_said trial.entry.op trial.entry.file.now table.old trial.entry.process) result }
     ensures table { table.new ≡ call_table trial.entry.op trial.entry.file.now table.old trial.entry.process }
 {
@@ -84,7 +79,7 @@ fn put_call(text: &mut Text, trial: Trial, table: &mut [u16]) -> Result<(), Refu
     }
 }
 
-fn put_refusal(text: &mut Text, refusal: Refusal)
+fn put_refusal(text: &mut Text<'_>, refusal: Refusal)
     ensures { Puts text.old text.new (refusal_text refusal) }
 {
     let shown = Shown::from(refusal);
@@ -94,7 +89,7 @@ fn put_refusal(text: &mut Text, refusal: Refusal)
     text.put_decimal(shown.place);
 }
 
-fn put_table(text: &mut Text, table: &[u16])
+fn put_table(text: &mut Text<'_>, table: &[u16])
     ensures { Puts text.old text.new (table_text table.now) }
 {
     for &word in table {
@@ -103,7 +98,7 @@ fn put_table(text: &mut Text, table: &[u16])
     }
 }
 
-fn put_answer(text: &mut Text, trial: Trial, table: &mut [u16])
+fn put_answer(text: &mut Text<'_>, trial: Trial, table: &mut [u16])
     ensures puts { Puts text.old text.new (answer_text trial.entry.op trial.entry.file.now table.old trial.entry.process) }
     ensures short { length table.old ≤ most_words → length (answer_text trial.entry.op trial.entry.file.now table.old trial.entry.process) ≤ answer_room }
 {
@@ -116,7 +111,7 @@ fn put_answer(text: &mut Text, trial: Trial, table: &mut [u16])
 }
 
 // The line of a trial whose words are in the table.
-pub(crate) fn put_line(text: &mut Text, trial: Trial, table: &mut [u16])
+pub(crate) fn put_line(text: &mut Text<'_>, trial: Trial, table: &mut [u16])
     requires room { text_end text.old + line_room ≤ length (text_bytes text.old) }
     requires few_words { length table.old ≤ most_words }
     ensures writes { Writes text.old text.new (trial_line trial.entry.op trial.entry.file.now table.old trial.entry.process) }

@@ -15,7 +15,7 @@ const WINDOWS: usize = 0xffff_ffff;
 // Room for one line.
 const ROOM: usize = 1500;
 
-// Writes the lines out where another may not fit.
+// Writes the lines out where another may not fit. Their end is a number: a Text would keep the buffer lent.
 fn with_room(rt: &HostRuntime, out: &[u8], end: usize) -> std::io::Result<usize>
     requires { (end ≤ length out.now) × (line_room ≤ length out.now) }
     ensures { IfOk result (λ start. start + line_room ≤ length out.now) }
@@ -70,7 +70,7 @@ fn fill(file: &mut File, input: &mut [u8], left: usize) -> usize
     left + read_full(file, &mut input[left..])
 }
 
-// Fills the window and answers. Where the input goes on: how many bytes at the start of the window are still to be answered.
+// Fills the window and answers. The bytes left are a number and no slice: the window is read into and moved in between. Where the input goes on: how many bytes at the start of the window are still to be answered.
 fn answer_window(
     rt: &HostRuntime,
     file: &mut File,

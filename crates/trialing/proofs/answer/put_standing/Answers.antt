@@ -5,4 +5,4 @@ use Rattle.trialing.proofs.answer.put_standing.Goals as goal
 
 pub returns : goal.returns
 unfolding said stands_text
-returns c = rw (← c.in_ok-standing.ensures, ← c.standing_number.ensures) (refl, puts_then c.put_bytes.ensures c.put_decimal.ensures)
+returns c = rw (← c.in_ok-standing.ensures, ← c.from.ensures) (refl, puts_then c.put_bytes.ensures c.put_decimal.ensures)
