@@ -46,12 +46,12 @@ module _ (S : Routines) (t : List ℕ) (rows : List (List ℕ)) (size : length r
 abbrev pub RowsTo : List (List ℕ) → Routines → List ℕ → ℕ → Type 0
 RowsTo all S t m = (p : ℕ) → 1 ≤ p → p < m → p ≤ S.N → Holds (get_or all (p - 1) []) S t p
 
-pub rows_more : (all : List (List ℕ)) (row : List ℕ) (S : Routines) (t : List ℕ) (p : ℕ) → length all ≡ most_processes → 1 ≤ p → p ≤ most_processes → RowsTo all S t p
-    → (p ≤ S.N → Holds row S t p) → RowsTo (set all (p - 1) row) S t (p + 1)
-rows_more all row S t p size lo hi rows new q l h n =
-    elim (ℕ_discrete q p) [
-      | yes e ↦ rw e (rw (get_or-set_same all (p - 1) row [] (omega arith)) (new (omega arith)))
-      | no ne ↦ rw (get_or-set_other all (p - 1) (q - 1) row [] (λ z. ne (omega arith))) (rows q l (omega arith) n)
+pub rows_more : (all : List (List ℕ)) (row : List ℕ) (S : Routines) (t : List ℕ) (i : ℕ) → length all ≡ most_processes → i < most_processes → RowsTo all S t (i + 1)
+    → (i + 1 ≤ S.N → Holds row S t (i + 1)) → RowsTo (set all i row) S t (i + 1 + 1)
+rows_more all row S t i size hi rows new q l h n =
+    elim (ℕ_discrete q (i + 1)) [
+      | yes e ↦ let at : q - 1 ≡ i = omega arith in rw (at, e) (rw (get_or-set_same all i row [] (omega arith)) (new (omega arith)))
+      | no ne ↦ rw (get_or-set_other all i (q - 1) row [] (λ z. ne (omega arith))) (rows q l (omega arith) n)
     ]
 
 -- and of those, the rows of the file's processes

@@ -4,8 +4,9 @@ ghost use Rattle.routine.specs.Routines.{modifies};
 ghost use Rattle.rules.specs.Consistent.{base_zero};
 ghost use Rattle.consistency.specs.Holders.{lock_fits_in, readers_in, base_fits_in, base_good_in, bases_good_in};
 
+use crate::consistent::Pair;
+use routine::Set;
 use routine::holds::{MODIFIES, Mark, READS, Row, mark_in};
-use routine::{GoodFile, Set};
 use words::{count, lock, nomore};
 
 // Who holds which base in which way: a row of marks for each process, by value (docs/FORMS.md).
@@ -67,17 +68,19 @@ fn base_good(bases: usize, table: &[u16], rows: &[Row], b: usize) -> bool
     }
 }
 
-// Whether those of every base are, where the processes hold what the rows of all eight say.
-pub(crate) fn bases_good(file: GoodFile<'_>, table: &[u16], all: Holders) -> bool
-    ensures { result ≡ bases_good_in file.entry.set.bases table.now (take file.entry.set.processes all) }
-{
-    let set = file.set();
-    let rows = &all[..set.processes];
-    // No all over the range: the proof finds only that it is true where each base is good.
-    for b in 1..=Set::BASES {
-        if !base_good(set.bases, table, rows, b) {
-            return false;
+impl Pair<'_> {
+    // Whether the words of every base are consistent, where the processes hold what the rows of all eight say.
+    pub(crate) fn bases_good(self, all: Holders) -> bool
+        ensures { result ≡ bases_good_in self.entry.file.set.bases self.entry.table.now (take self.entry.file.set.processes all) }
+    {
+        let set = self.file.set();
+        let rows = &all[..set.processes];
+        // No all over the range: the proof finds only that it is true where each base is good.
+        for b in 1..=Set::BASES {
+            if !base_good(set.bases, self.table, rows, b) {
+                return false;
+            }
         }
+        true
     }
-    true
 }

@@ -2,21 +2,28 @@ ghost use Rattle.std.specs.Prelude.{◌≡◌};
 ghost use Rattle.routine.specs.Routines.{routines};
 ghost use Rattle.rules.specs.Consistent.{consistent};
 
-use crate::bases::bases_good;
-use crate::processes::process_good;
 use routine::holds::FREE;
 use routine::{GoodFile, Set};
 
-// Whether a table is consistent with a good file. What each process holds is worked out once, on the way.
-pub(crate) fn consistent(file: GoodFile<'_>, table: &[u16]) -> bool
-    ensures { result ≡ consistent (routines file.entry.bytes.now) table.now }
-{
-    let mut all = [[FREE; Set::BASES]; Set::PROCESSES];
-    for p in 1..=Set::PROCESSES {
-        match process_good(file, table, p) {
-            Some(row) => all[p - 1] = row,
-            None => return false,
+// A good file and a table, looked at together.
+#[derive(Clone, Copy)]
+pub(crate) struct Pair<'a> {
+    pub(crate) file: GoodFile<'a>,
+    pub(crate) table: &'a [u16],
+}
+
+impl Pair<'_> {
+    // Whether the table is consistent with the file. What each process holds is worked out once, on the way.
+    pub(crate) fn consistent(self) -> bool
+        ensures { result ≡ consistent (routines self.entry.file.bytes.now) self.entry.table.now }
+    {
+        let mut all = [[FREE; Set::BASES]; Set::PROCESSES];
+        for (i, held) in all.iter_mut().enumerate() {
+            let Some(row) = self.process_good(i + 1) else {
+                return false;
+            };
+            *held = row;
         }
+        self.bases_good(all)
     }
-    bases_good(file, table, all)
 }

@@ -24,10 +24,10 @@ pub fn follow(file: &[u8], p: usize, k: usize) -> Result<Row, Row>
 {
     let mut row = [FREE; Set::BASES];
     for j in 0..k {
-        match row_with(row, call_at(file, p, j)) {
-            Some(next) => row = next,
-            None => return Err(row),
-        }
+        let Some(next) = row_with(row, call_at(file, p, j)) else {
+            return Err(row);
+        };
+        row = next;
     }
     Ok(row)
 }

@@ -16,6 +16,7 @@ const ALLOWED: [[[bool; 2]; 2]; 8] = [
     [[true, false], [false, false]], // 7, stopped
 ];
 
+// By way of the word: a second From would say the eight numbers again.
 fn number(phase: Phase) -> usize
     ensures { (result ≡ phase_number phase) × (result < 8) }
 {

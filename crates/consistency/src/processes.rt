@@ -1,16 +1,17 @@
 ghost use Rattle.std.specs.Prelude.{◌≡◌, ◌≤◌};
 ghost use Rattle.routine.specs.Routines.{routines};
+ghost use Rattle.routine.specs.Kind.{kind_number};
 ghost use Rattle.rules.specs.Phase.{phase_number};
 ghost use Rattle.rules.specs.Consistent.{call_fits, stands_well, process_zero, process_fits, process_good};
 ghost use Rattle.consistency.specs.Following.{row_now};
 ghost use Rattle.consistency.specs.Holders.{Fitted};
 
+use crate::consistent::Pair;
 use crate::held::follow;
 use crate::marks::marks_allowed;
 use routine::calls::Call;
 use routine::holds::{FREE, Mark, Row, fine, mark_in, marked};
-use routine::range::within;
-use routine::{GoodFile, Set};
+use routine::{Kind, Set};
 use rules::Phase;
 use words::{call, entry, phase, wake};
 
@@ -22,17 +23,20 @@ fn call_fits(n: usize, k: usize, phase: Phase) -> bool
 }
 
 // Whether a phase may stand at a call of this kind, whose base has the mark old.
-fn stands_well(phase: Phase, kind: usize, old: Mark) -> bool
-    ensures { result ≡ stands_well (phase_number phase) kind old }
+fn stands_well(phase: Phase, kind: Kind, old: Mark) -> bool
+    ensures { result ≡ stands_well (phase_number phase) (kind_number kind) old }
 {
-    match phase {
-        Phase::Start => true,
-        Phase::Enlist | Phase::SecondTry | Phase::Delist | Phase::Waiting => {
-            within(Call::MODLOCK, Call::READLOCK, kind) && fine(kind, old)
-        }
-        Phase::SetSwitch => kind == Call::MODLOCK && fine(kind, old),
-        Phase::Notify => within(Call::UNLOCK, Call::DECREASE, kind) && fine(kind, old),
-        Phase::Stopped => within(Call::MODLOCK, Call::DECREASE, kind) && !fine(kind, old),
+    let fine = fine(usize::from(kind), old);
+    match (phase, kind) {
+        (Phase::Start, _) => true,
+        (Phase::SetSwitch, Kind::Modlock) => fine,
+        (
+            Phase::Enlist | Phase::SecondTry | Phase::Delist | Phase::Waiting,
+            Kind::Modlock | Kind::Readlock,
+        ) => fine,
+        (Phase::Notify, Kind::Unlock | Kind::Decrease) => fine,
+        (Phase::Stopped, _) => !fine,
+        _ => false,
     }
 }
 
@@ -46,29 +50,6 @@ fn held_now(row: Row, phase: Phase, call: Call) -> Row
     }
 }
 
-// What process p, 1 to N, holds, where its words are consistent.
-fn process_fits(file: GoodFile<'_>, table: &[u16], p: usize) -> Option<Row>
-    requires { (1 ≤ p) × (p ≤ (routines file.bytes.now).N) }
-    ensures { Fitted process_fits (routines file.entry.bytes.now) table.now p result }
-{
-    let phase = Phase::try_from(phase(table, p)).ok()?;
-    let k = call(table, p);
-    if !call_fits(file.calls_in(p), k, phase) {
-        return None;
-    }
-    if !marks_allowed(phase, wake(table, p), entry(table, p)) {
-        return None;
-    }
-    let row = follow(file.bytes(), p, k).ok()?;
-    let Some(call) = file.call_at(p, k) else {
-        return Some(row);
-    };
-    if !stands_well(phase, call.kind, mark_in(row, call.base)) {
-        return None;
-    }
-    Some(held_now(row, phase, call))
-}
-
 // Whether the words of process p, above N, are zero.
 fn process_blank(table: &[u16], p: usize) -> bool
     ensures { result ≡ process_zero table.now p }
@@ -76,14 +57,40 @@ fn process_blank(table: &[u16], p: usize) -> bool
     call(table, p) == 0 && phase(table, p) == 0 && wake(table, p) == 0 && entry(table, p) == 0
 }
 
-// What process p, 1 to 8, holds, where its words are consistent; a process above N holds nothing. p is a number and asked about in words: a type for it would be made anew at each step of a loop.
-pub(crate) fn process_good(file: GoodFile<'_>, table: &[u16], p: usize) -> Option<Row>
-    requires { 1 ≤ p }
-    ensures { Fitted process_good (routines file.entry.bytes.now) table.now p result }
-{
-    if p <= file.processes() {
-        process_fits(file, table, p)
-    } else {
-        process_blank(table, p).then_some([FREE; Set::BASES])
+impl Pair<'_> {
+    // What process p, 1 to N, holds, where its words are consistent.
+    fn process_fits(self, p: usize) -> Option<Row>
+        requires { (1 ≤ p) × (p ≤ (routines self.file.bytes.now).N) }
+        ensures { Fitted process_fits (routines self.entry.file.bytes.now) self.entry.table.now p result }
+    {
+        let phase = Phase::try_from(phase(self.table, p)).ok()?;
+        let k = call(self.table, p);
+        if !call_fits(self.file.calls_in(p), k, phase) {
+            return None;
+        }
+        if !marks_allowed(phase, wake(self.table, p), entry(self.table, p)) {
+            return None;
+        }
+        let row = follow(self.file.bytes(), p, k).ok()?;
+        let Some(call) = self.file.call_at(p, k) else {
+            return Some(row);
+        };
+        let kind = Kind::try_from(call.kind).unwrap();
+        if !stands_well(phase, kind, mark_in(row, call.base)) {
+            return None;
+        }
+        Some(held_now(row, phase, call))
+    }
+
+    // What process p, 1 to 8, holds, where its words are consistent; a process above N holds nothing. That p is the number of a process is a clause: a type that says it would be made anew at each step of a loop.
+    pub(crate) fn process_good(self, p: usize) -> Option<Row>
+        requires { 1 ≤ p }
+        ensures { Fitted process_good (routines self.entry.file.bytes.now) self.entry.table.now p result }
+    {
+        if p <= self.file.processes() {
+            self.process_fits(p)
+        } else {
+            process_blank(self.table, p).then_some([FREE; Set::BASES])
+        }
     }
 }

@@ -1,4 +1,4 @@
-// The machine: the fresh table, one turn of one process, and the standing of a table. Each call takes every input.
+// The machine: the fresh table, one turn of one process, and the standing of a table. Each call takes every input, file and table as a host has them: two slices.
 #![tactic(auto)]
 
 ghost use Rattle.std.specs.Prelude.{◌≡◌};
@@ -41,6 +41,6 @@ pub fn turn(file: &[u8], table: &mut [u16], process: usize) -> Result<Answer, Re
 pub fn standing(file: &[u8], table: &[u16]) -> Result<Standing, Refusal>
     ensures { result ≡ standing file.now table.now }
 {
-    let file = ready(file, table, 1)?;
-    Ok(Checked { file, table }.stand())
+    let good = ready(file, table, 1)?;
+    Ok(Checked { file: good, table }.stand())
 }

@@ -1,22 +1,22 @@
-#![tactic(auto, unfolding(routine::specs::Test::and, routine::specs::Judging::is_take, rules::specs::Phase::phase_number, rules::specs::Turn::to_phase, rules::specs::Turn::completed, rules::specs::Turn::with_base, rules::specs::Turn::with_marks, rules::specs::Turn::succeeds, rules::specs::Turn::taken, rules::specs::Turn::take, rules::specs::Turn::release, rules::specs::Turn::lessen, rules::specs::Turn::begin, rules::specs::Turn::start, rules::specs::Turn::enlist, rules::specs::Turn::retry, rules::specs::Turn::delist, rules::specs::Turn::switch, rules::specs::Turn::next))]
+#![tactic(auto, unfolding(routine::specs::Test::and, routine::specs::Judging::is_take, routine::specs::Kind::kind_number, rules::specs::Phase::phase_number, rules::specs::Turn::to_phase, rules::specs::Turn::completed, rules::specs::Turn::with_base, rules::specs::Turn::with_marks, rules::specs::Turn::succeeds, rules::specs::Turn::taken, rules::specs::Turn::take, rules::specs::Turn::release, rules::specs::Turn::lessen, rules::specs::Turn::begin, rules::specs::Turn::start, rules::specs::Turn::enlist, rules::specs::Turn::retry, rules::specs::Turn::delist, rules::specs::Turn::switch, rules::specs::Turn::next))]
 
-ghost use Rattle.std.specs.Prelude.{◌≡◌, ◌≢◌, ◌≤◌};
+ghost use Rattle.std.specs.Prelude.{◌≡◌, ◌≤◌};
 ghost use Rattle.routine.specs.Limits.{most_processes, most_calls};
+ghost use Rattle.routine.specs.Kind.{kind_number};
 ghost use Rattle.rules.specs.Turn.{succeeds, taken, take, release, lessen, begin, start, enlist, retry, delist, switch, await, next, to_phase, completed};
 ghost use Rattle.rules.specs.Phase.{phase_number};
 
-use routine::calls::Call;
+use routine::Kind;
 use routine::holds::{Mark, fine};
 use rules::{Phase, Words};
 
-// What a process looks at in its turn: the call at which it stands, the mark that its completed calls leave on that call's base, and the words of the base and its own.
+// What a process looks at in its turn: the kind of the call at which it stands, the mark that its completed calls leave on that call's base, and the words of the base and its own.
 #[derive(Clone, Copy)]
 pub(crate) struct Turn {
     pub(crate) process: u16,
-    pub(crate) call: Call,
+    pub(crate) kind: Kind,
     pub(crate) mark: Mark,
     pub(crate) words: Words,
-    ghost a_call: { call.kind ≢ 0 },
     ghost few_readers: { words.count ≤ most_processes },
     ghost few_calls: { words.call ≤ most_calls },
 }
@@ -45,7 +45,7 @@ fn completed(words: Words) -> Words
 impl Turn {
     // What the turn leaves of the words, if it is not idle.
     pub(crate) fn next(self) -> Option<Words>
-        ensures { result ≡ next self.process self.call.kind self.mark self.words }
+        ensures { result ≡ next self.process (kind_number self.kind) self.mark self.words }
     {
         match Phase::try_from(usize::from(self.words.phase)).ok()? {
             Phase::Start => Some(self.start()),
@@ -61,11 +61,11 @@ impl Turn {
 
     // Whether a try succeeds.
     fn succeeds(self) -> bool
-        ensures { result ≡ succeeds self.call.kind self.words }
+        ensures { result ≡ succeeds (kind_number self.kind) self.words }
     {
         let w = self.words;
         w.lock == 0
-            && if self.call.kind == Call::MODLOCK {
+            && if self.kind == Kind::Modlock {
                 w.count == 0
             } else {
                 w.nomore == 0
@@ -74,10 +74,10 @@ impl Turn {
 
     // What a try that succeeds leaves.
     fn taken(self) -> Words
-        ensures { result ≡ taken self.process self.call.kind self.words }
+        ensures { result ≡ taken self.process (kind_number self.kind) self.words }
     {
         let w = self.words;
-        if self.call.kind == Call::MODLOCK {
+        if self.kind == Kind::Modlock {
             return Words {
                 lock: self.process,
                 ..w
@@ -91,7 +91,7 @@ impl Turn {
 
     // Phase 0, modlock or readlock.
     fn take(self) -> Words
-        ensures { result ≡ take self.process self.call.kind self.words }
+        ensures { result ≡ take self.process (kind_number self.kind) self.words }
     {
         if self.succeeds() {
             return completed(self.taken());
@@ -133,20 +133,20 @@ impl Turn {
 
     // Phase 0, at a call that is no logic error.
     fn begin(self) -> Words
-        ensures { result ≡ begin self.process self.call.kind self.words }
+        ensures { result ≡ begin self.process (kind_number self.kind) self.words }
     {
-        match self.call.kind {
-            ..=Call::READLOCK => self.take(),
-            Call::UNLOCK => self.release(),
-            _ => self.lessen(),
+        match self.kind {
+            Kind::Modlock | Kind::Readlock => self.take(),
+            Kind::Unlock => self.release(),
+            Kind::Decrease => self.lessen(),
         }
     }
 
     // Phase 0: a logic error stops.
     fn start(self) -> Words
-        ensures { start self.process self.call.kind self.mark self.words ≡ Some result }
+        ensures { start self.process (kind_number self.kind) self.mark self.words ≡ Some result }
     {
-        if fine(self.call.kind, self.mark) {
+        if fine(usize::from(self.kind), self.mark) {
             return self.begin();
         }
         to_phase(Phase::Stopped, self.words)
@@ -165,12 +165,12 @@ impl Turn {
 
     // Phase 2: the second try.
     fn retry(self) -> Words
-        ensures { result ≡ retry self.process self.call.kind self.words }
+        ensures { result ≡ retry self.process (kind_number self.kind) self.words }
     {
         if self.succeeds() {
             return to_phase(Phase::Delist, self.taken());
         }
-        if self.call.kind == Call::MODLOCK {
+        if self.kind == Kind::Modlock {
             return to_phase(Phase::SetSwitch, self.words);
         }
         to_phase(Phase::Waiting, self.words)

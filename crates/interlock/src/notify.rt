@@ -5,10 +5,10 @@ ghost use Rattle.rules.specs.Turn.{waits, notified};
 use routine::GoodFile;
 use words::{call, entry, put_marks};
 
-// Whether process q stands on the waiting list for base b. Both are asked about in words: a type for them would be made anew at each step of the loop.
+// Whether process q stands on the waiting list for base b. File and table stay two: `notify` writes the table between two looks. That q is a process of the file is a clause: a type that says it would be made anew at each step of a loop.
 #[tactic(auto, unfolding(routine::specs::Test::and, rules::specs::Turn::waits))]
 fn waits(file: GoodFile<'_>, table: &[u16], b: usize, q: usize) -> bool
-    requires { (1 ≤ b) × (1 ≤ q) × (q ≤ (routines file.bytes.now).N) }
+    requires { (1 ≤ q) × (q ≤ (routines file.bytes.now).N) }
     ensures { result ≡ waits (routines file.entry.bytes.now) table.now b q }
 {
     if entry(table, q) != 1 {
@@ -16,14 +16,14 @@ fn waits(file: GoodFile<'_>, table: &[u16], b: usize, q: usize) -> bool
     }
     match file.call_at(q, call(table, q)) {
         Some(now) => now.base == b,
-        None => false,
+        // Where there is no call, the definition's base is 0.
+        None => 0 == b,
     }
 }
 
 // Every process on the waiting list for base b is taken off it, and gets its wakeup.
 #[tactic(auto, unfolding(rules::specs::Turn::notified))]
 pub(crate) fn notify(file: GoodFile<'_>, table: &mut [u16], b: usize)
-    requires { 1 ≤ b }
     ensures { table.new ≡ notified (routines file.entry.bytes.now) b table.old (routines file.entry.bytes.now).N }
 {
     for q in 1..=file.processes() {

@@ -26,7 +26,7 @@ enum Doing {
 }
 
 impl Checked<'_> {
-    // What process p is doing. Its own words decide.
+    // What process p is doing. Its own words decide. That p is a process of the file is a clause: a type that says it would be made anew at each step of a loop.
     #[tactic(auto, using(routine::specs::Calls::calls_are), unfolding(crate::specs::Doing::doing, rules::specs::Standing::finished, rules::specs::Phase::phase_number))]
     fn doing(self, p: usize) -> Doing
         requires { (1 ≤ p) × (p ≤ (routines self.file.bytes.now).N) }

@@ -7,12 +7,12 @@ ghost use Rattle.rules.specs.declared.Answer.TheVariants as An;
 use crate::next::Turn;
 use crate::notify::notify;
 use consistency::held::follow;
-use routine::GoodFile;
 use routine::holds::mark_in;
+use routine::{GoodFile, Kind};
 use rules::{Answer, Phase};
 use words::{call, put_words, words_at};
 
-// One turn of process p at a table that was checked. File and table stay two: one is only read, the other is written.
+// One turn of process p at a table that was checked. File and table stay two: one is only read, the other is written. What is known of them and of p is a clause: it holds before the turn, and a type would promise it of the table after it too.
 pub(crate) fn step(file: GoodFile<'_>, table: &mut [u16], p: usize) -> Answer
     requires { Ready file.bytes.now table.old × (1 ≤ p) × (p ≤ (routines file.bytes.now).N) }
     ensures answer { result ≡ cond (moves (routines file.entry.bytes.now) table.old p) An.Moved An.Idle }
@@ -22,11 +22,12 @@ pub(crate) fn step(file: GoodFile<'_>, table: &mut [u16], p: usize) -> Answer
     let Some(call) = file.call_at(p, k) else {
         return Answer::Idle;
     };
+    let kind = Kind::try_from(call.kind).unwrap();
     let row = follow(file.bytes(), p, k).unwrap();
     let turn = Turn {
         // At most 8, as is proved; try_from would test it again.
         process: p as u16,
-        call,
+        kind,
         mark: mark_in(row, call.base),
         words: words_at(table, call.base, p),
     };

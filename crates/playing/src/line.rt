@@ -28,7 +28,7 @@ fn word(answer: Answer) -> &'static [u8]
     }
 }
 
-// Plays turn i, by a process, and puts its line, unless it is refused.
+// Plays turn i, by a process, and puts its line, unless it is refused. Text, file and table stay apart: two are lent to be written.
 pub(crate) fn put_line(
     text: &mut Text<'_>,
     i: usize,

@@ -19,7 +19,7 @@ fn playable(file: &[u8], turns: &[u8]) -> Result<(), Refusal>
     Ok(())
 }
 
-// Plays the turns, and puts their lines and the line that ends the play, up to what is refused. Room is asked for in words: it is a fact about one text before one call.
+// Plays the turns, and puts their lines and the line that ends the play, up to what is refused. Room is a clause: it is a fact about one text before one call.
 fn put_turns(
     text: &mut Text<'_>,
     file: &[u8],

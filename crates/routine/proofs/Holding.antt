@@ -1,5 +1,5 @@
 -- Laws of the current call and of what a process holds.
-use mathlib.Core.Path.{◌≡◌}
+use mathlib.Core.Path.{◌≡◌, refl}
 use mathlib.Core.Logic.{◌≢◌}
 use Prim.Native.Nat.{ℕ, zero, suc, ◌≤◌, ◌<◌}
 use native.Mathlib.Omega.{arith}
@@ -8,6 +8,12 @@ use lib.Dec.{eqb}
 use borrow.Author.Tests.{eq-eqb, ne_eqb, lt-ltb, le-ltb}
 use Rattle.routine.specs.Routines.{Routines, kind_now, base_now, modlock, readlock, unlock, decrease, free, modifies, reads, mark, fine, hold}
 use Rattle.routine.specs.Rules.{WellFormed}
+use Rattle.routine.specs.Kind.{kind_number}
+use Rattle.routine.specs.Test.{within, is_within, clash}
+use Rattle.routine.specs.declared.kind.Kind.{Kind}
+use Rattle.routine.specs.declared.kind.NoKind.{NoKind}
+use Rattle.std.specs.Prelude.{Result, Ok, Err, MatchResult, IsOk, IsOkAnd}
+use mathlib.Core.Bool.{false}
 
 -- ---- the current call
 
@@ -47,6 +53,17 @@ call_now S g p k lo hi h =
       base_low = omega (arith, base_now_lem S p k h, g.base_low p k lo hi h);
       base_high = omega (arith, base_now_lem S p k h, g.base_high p k lo hi h);
     }
+
+-- an answer that is Ok with some value is Ok
+pub is_ok : {A E : Type 0} (P : A → Type 0) (r : Result A E) → IsOkAnd r P → IsOk r
+is_ok P (Ok a) h = refl
+is_ok P (Err e) h = absurd h
+
+-- the kind of a call is one of the four
+pub kind_known : (S : Routines) → WellFormed S → (p k n : ℕ) → 1 ≤ p → p ≤ S.N → k < S.calls p → n ≡ kind_now S p k
+    → (r : Result Kind NoKind) → MatchResult r (λ kind. kind_number kind ≡ n) (λ e. (e.0 ≡ n) × (within modlock decrease n ≡ false)) → IsOkAnd r (λ kind. kind_number kind ≡ n)
+kind_known S g p k n lo hi h is (Ok kind) e = e
+kind_known S g p k n lo hi h is (Err e) m = let c = call_now S g p k lo hi h in clash (is_within modlock decrease n (omega (arith, c.kind_low)) (omega (arith, c.kind_high))) m.1
 
 -- no kind is above decrease
 pub kind_now_high : (S : Routines) → WellFormed S → (p k : ℕ) → 1 ≤ p → p ≤ S.N → kind_now S p k ≤ decrease

@@ -1,14 +1,21 @@
 -- The contracts settle everything: any two answers that the contract of a public call allows are equal.
-use mathlib.Core.Path.{◌≡◌, sym, ◌∙◌}
+use mathlib.Core.Path.{◌≡◌, refl, sym, ap, ◌∙◌}
+use mathlib.Core.Bool.{true, false, cond}
 use mathlib.Core.List.{List}
 use Prim.Native.Nat.{ℕ}
+use lib.Dec.{eqb}
 use contract.Lifetimes.{Lfts}
 use Rattle.std.specs.Prelude.{Result, Ok, Err, MatchResult}
 use Rattle.routine.specs.declared.refusal.Refusal.{Refusal}
 use Rattle.routine.specs.declared.set.Set.{Set}
 use Rattle.routine.specs.declared.good_file.GoodFile.{GoodFile}
+use Rattle.routine.specs.declared.kind.Kind.{Kind}
+use Rattle.routine.specs.declared.kind.Kind.TheVariants as Ki
+use Rattle.routine.specs.declared.kind.NoKind.{NoKind}
 use Rattle.routine.specs.Refusal.{ok_err}
-use Rattle.routine.specs.Reading.{reading}
+use Rattle.routine.specs.Test.{and, within, clash}
+use Rattle.routine.specs.Routines.{modlock, readlock, unlock, decrease}
+use Rattle.routine.specs.Kind.{kind_number}
 use Rattle.routine.proofs.read.Reads as read_reads
 use Rattle.routine.proofs.judge.Reads as judge_reads
 use Rattle.routine.proofs.calls.calls_in.Reads as calls_reads
@@ -23,6 +30,8 @@ use Rattle.routine.proofs.set.Set.limits.Reads as limits_reads
 use Rattle.routine.proofs.refusal.Shown.new.Reads as shown_reads
 use Rattle.routine.proofs.refusal.Shown.none.Reads as none_reads
 use Rattle.routine.proofs.refusal.ShownFromRefusal.from.Reads as from_reads
+use Rattle.routine.proofs.kind.KindTryFromUsize.try_from.Reads as kind_reads
+use Rattle.routine.proofs.kind.UsizeFromKind.from.Reads as kind_number_reads
 use Rattle.routine.proofs.good_file.GoodFile.read.Reads as good_reads
 use Rattle.routine.proofs.good_file.GoodFile.bytes.Reads as good_bytes_reads
 use Rattle.routine.proofs.good_file.GoodFile.set.Reads as good_set_reads
@@ -72,6 +81,32 @@ none_settled κs a r s x y p q = p ∙ sym q
 pub from_settled : (κs : Lfts 0) (a : _) (r s : _) (x y : _) → from_reads.Post κs a r x → from_reads.Post κs a s y → r ≡ s
 from_settled κs a r s x y p q = p ∙ sym q
 
+pub kind_number_settled : (κs : Lfts 0) (a : _) (r s : _) (x y : _) → kind_number_reads.Post κs a r x → kind_number_reads.Post κs a s y → r ≡ s
+kind_number_settled κs a r s x y p q = p ∙ sym q
+
+-- the kind of each number, to 4
+by_number : ℕ → Kind
+by_number n = cond (eqb n modlock) Ki.Modlock (cond (eqb n readlock) Ki.Readlock (cond (eqb n unlock) Ki.Unlock Ki.Decrease))
+
+number_is : (kind : Kind) → (by_number (kind_number kind) ≡ kind) × (within modlock decrease (kind_number kind) ≡ true)
+unfolding by_number kind_number within and
+number_is Ki.Modlock = (refl, refl)
+number_is Ki.Readlock = (refl, refl)
+number_is Ki.Unlock = (refl, refl)
+number_is Ki.Decrease = (refl, refl)
+
+abbrev Names : ℕ → Result Kind NoKind → Type 0
+Names n r = MatchResult r (λ kind. kind_number kind ≡ n) (λ e. (e.0 ≡ n) × (within modlock decrease n ≡ false))
+
+one_kind : (n : ℕ) (r s : Result Kind NoKind) → Names n r → Names n s → r ≡ s
+one_kind n (Ok a) (Ok b) p q = ap Ok (sym (number_is a).0 ∙ ap by_number (p ∙ sym q) ∙ (number_is b).0)
+one_kind n (Ok a) (Err e) p q = absurd (clash (number_is a).1 (ap (within modlock decrease) p ∙ q.1))
+one_kind n (Err d) (Ok b) p q = absurd (clash (number_is b).1 (ap (within modlock decrease) q ∙ p.1))
+one_kind n (Err d) (Err e) p q = ap (λ m. Err (record { 0 = m })) (p.0 ∙ sym q.0)
+
+pub kind_settled : (κs : Lfts 0) (a : _) (r s : _) (x y : _) → kind_reads.Post κs a r x → kind_reads.Post κs a s y → r ≡ s
+kind_settled κs a r s x y p q = one_kind a.0 r s p q
+
 pub good_bytes_settled : (κs : Lfts 1) (a : _) (r s : _) (x y : _) → good_bytes_reads.Post κs a r x → good_bytes_reads.Post κs a s y → r.now ≡ s.now
 good_bytes_settled κs a r s x y p q = p ∙ sym q
 
@@ -94,20 +129,21 @@ SameGood (Err q) (Err r) = q ≡ r
 SameGood (Ok g) (Err r) = ⊥
 SameGood (Err q) (Ok h) = ⊥
 
-abbrev Gives : List ℕ → Result GoodFile Refusal → Type 0
-Gives f r = MatchResult r (λ g. (reading f ≡ Ok g.set) × (g.bytes.now ≡ f)) (λ q. reading f ≡ Err q)
+-- what a contract says of an answer that is the file's bytes with the set of this answer, or its refusal
+abbrev pub Gives : Result Set Refusal → List ℕ → Result GoodFile Refusal → Type 0
+Gives due f r = MatchResult r (λ g. (due ≡ Ok g.set) × (g.bytes.now ≡ f)) (λ q. due ≡ Err q)
 
-same_good : (f : List ℕ) (r s : Result GoodFile Refusal) → Gives f r → Gives f s → SameGood r s
-same_good f (Ok g) (Ok h) p q = (ok_same (sym p.0 ∙ q.0), p.1 ∙ sym q.1)
+pub same_good : (due : Result Set Refusal) (f : List ℕ) (r s : Result GoodFile Refusal) → Gives due f r → Gives due f s → SameGood r s
+same_good due f (Ok g) (Ok h) p q = (ok_same (sym p.0 ∙ q.0), p.1 ∙ sym q.1)
   where
     ok_same : {a b : Set} → ◌≡◌ {A = Result Set Refusal} (Ok a) (Ok b) → a ≡ b
     ok_same e = cc
-same_good f (Err o) (Err r) p q = err_same (sym p ∙ q)
+same_good due f (Err o) (Err r) p q = err_same (sym p ∙ q)
   where
     err_same : {a b : Refusal} → ◌≡◌ {A = Result Set Refusal} (Err a) (Err b) → a ≡ b
     err_same e = cc
-same_good f (Ok g) (Err r) p q = absurd (ok_err _ _ (sym p.0 ∙ q))
-same_good f (Err o) (Ok h) p q = absurd (ok_err _ _ (sym q.0 ∙ p))
+same_good due f (Ok g) (Err r) p q = absurd (ok_err _ _ (sym p.0 ∙ q))
+same_good due f (Err o) (Ok h) p q = absurd (ok_err _ _ (sym q.0 ∙ p))
 
 pub good_settled : (κs : Lfts 1) (a : _) (r s : _) (x y : _) → good_reads.Post κs a r x → good_reads.Post κs a s y → SameGood r s
-good_settled κs a r s x y p q = same_good _ r s p q
+good_settled κs a r s x y p q = same_good _ _ r s p q

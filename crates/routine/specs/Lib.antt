@@ -5,6 +5,7 @@ pub mod Limits
 pub mod Refusal
 pub mod Block
 pub mod Routines
+pub mod Kind
 pub mod Rules
 pub mod Calls
 pub mod Rows

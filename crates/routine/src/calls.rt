@@ -5,7 +5,7 @@ use crate::block::block_at;
 use crate::set::Set;
 
 // A call: its kind (1 modlock, 2 readlock, 3 unlock, 4 decrease) and its base, from 1.
-// The kind is a number and no enum: `call_at` gives any byte of a file that nobody has read yet, and `holds` takes any number.
+// The kind is a number and no enum: `call_at` gives any byte of a file that nobody has read yet, and `holds` takes any number. In a good file it is the number of a `Kind`.
 #[derive(Clone, Copy, Debug, PartialEq, Eq)]
 pub struct Call {
     pub kind: usize,
@@ -27,10 +27,7 @@ impl Call {
 pub fn calls_in(file: &[u8], p: usize) -> usize
     ensures { result ≡ calls_in file.now p }
 {
-    match block_at(file, p) {
-        Some(block) => usize::from(block[2]),
-        None => 0,
-    }
+    block_at(file, p).map_or(0, |block| usize::from(block[2]))
 }
 
 // The call at which process p stands when it has completed k calls; none past its last, or past the 32nd.

@@ -19,38 +19,53 @@ fn call_byte_good(bases: usize, i: usize, v: usize) -> bool
     within(1, bases, v)
 }
 
-// The field rule of byte i of block p.
-#[tactic(auto, unfolding(crate::specs::Block::byte_good, crate::specs::Test::and))]
-fn byte_good(set: Set, p: usize, block: &Block, i: usize) -> bool
-    requires { i < checked_bytes }
-    ensures { result ≡ byte_good set.processes set.bases p block.now i }
-{
-    let v = usize::from(block[i]);
-    match i {
-        0 => v == p,
-        1 => v == set.processes,
-        2 => v <= Set::CALLS,
-        3 => v == set.bases && within(1, Set::BASES, v),
-        _ if i < Set::HEAD + 2 * usize::from(block[2]) => call_byte_good(set.bases, i, v),
-        _ => v == 0,
-    }
+// The block of a process in a file about this set.
+#[derive(Clone, Copy)]
+pub(crate) struct ProcessBlock<'a> {
+    pub(crate) set: Set,
+    pub(crate) process: usize,
+    pub(crate) block: &'a Block,
 }
 
-// The first byte of block p that breaks its field rule.
-fn bad_byte(set: Set, p: usize, block: &Block) -> Option<usize>
-    ensures { IsFirstBad (byte_good set.processes set.bases p block.now) checked_bytes result }
-{
-    // No find over the range: the proof does not reach its answer.
-    for i in 0..Set::CHECKED {
-        if !byte_good(set, p, block, i) {
-            return Some(i);
+impl ProcessBlock<'_> {
+    // The field rule of byte i.
+    #[tactic(auto, unfolding(crate::specs::Block::byte_good, crate::specs::Test::and))]
+    fn byte_good(self, i: usize) -> bool
+        requires { i < checked_bytes }
+        ensures { result ≡ byte_good self.entry.set.processes self.entry.set.bases self.entry.process self.entry.block.now i }
+    {
+        let ProcessBlock {
+            set,
+            process,
+            block,
+        } = self;
+        let v = usize::from(block[i]);
+        match i {
+            0 => v == process,
+            1 => v == set.processes,
+            2 => v <= Set::CALLS,
+            3 => v == set.bases && within(1, Set::BASES, v),
+            _ if i < Set::HEAD + 2 * usize::from(block[2]) => call_byte_good(set.bases, i, v),
+            _ => v == 0,
         }
     }
-    None
-}
 
-pub(crate) fn fields_right(set: Set, p: usize, block: &Block) -> bool
-    ensures { result ≡ fields_right set.processes set.bases p block.now }
-{
-    bad_byte(set, p, block).is_none()
+    // The first byte that breaks its field rule.
+    fn bad_byte(self) -> Option<usize>
+        ensures { IsFirstBad (byte_good self.entry.set.processes self.entry.set.bases self.entry.process self.entry.block.now) checked_bytes result }
+    {
+        // No find over the range: the proof does not reach its answer.
+        for i in 0..Set::CHECKED {
+            if !self.byte_good(i) {
+                return Some(i);
+            }
+        }
+        None
+    }
+
+    pub(crate) fn fields_right(self) -> bool
+        ensures { result ≡ fields_right self.entry.set.processes self.entry.set.bases self.entry.process self.entry.block.now }
+    {
+        self.bad_byte().is_none()
+    }
 }

@@ -6,14 +6,15 @@ ghost use Rattle.routine.specs.Reading.{length_good};
 
 use crate::block::Block;
 use crate::check::check_right;
-use crate::fields::fields_right;
+use crate::fields::ProcessBlock;
+use crate::range::within;
 use crate::set::Set;
 
-#[tactic(auto, unfolding(crate::specs::Reading::length_good, crate::specs::Test::within, crate::specs::Test::and))]
+#[tactic(auto, unfolding(crate::specs::Reading::length_good, crate::specs::Test::and))]
 pub(crate) fn length_good(length: usize) -> bool
     ensures { result ≡ length_good length }
 {
-    (1..=Set::PROCESSES * Set::BLOCK).contains(&length) && length % Set::BLOCK == 0
+    within(1, Set::PROCESSES * Set::BLOCK, length) && length % Set::BLOCK == 0
 }
 
 // N and B of a file of these blocks.
@@ -35,8 +36,12 @@ pub(crate) fn wrong_check(blocks: &[Block]) -> Option<usize>
 pub(crate) fn wrong_fields(set: Set, blocks: &[Block]) -> Option<usize>
     ensures { IsFirstBad (λ i. fields_right set.processes set.bases (i + 1) (get_or blocks.now i [])) (length blocks.now) result }
 {
-    blocks
-        .iter()
-        .enumerate()
-        .position(|(i, block)| !fields_right(set, i + 1, block))
+    blocks.iter().enumerate().position(|(i, block)| {
+        let own = ProcessBlock {
+            set,
+            process: i + 1,
+            block,
+        };
+        !own.fields_right()
+    })
 }

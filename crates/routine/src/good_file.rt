@@ -53,6 +53,7 @@ impl<'a> GoodFile<'a> {
         calls_in(self.bytes, p)
     }
 
+    // The kind is a number, as `calls::call_at` gives it; who tells calls apart makes a `Kind` of it.
     pub fn call_at(self, p: usize, k: usize) -> Option<Call>
         ensures { result ≡ call_at self.entry.bytes.now p k }
     {

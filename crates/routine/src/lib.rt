@@ -12,6 +12,7 @@ mod fields;
 mod file;
 pub mod good_file;
 pub mod holds;
+pub mod kind;
 pub mod range;
 pub mod refusal;
 pub mod set;
@@ -19,6 +20,7 @@ mod walk;
 
 use file::{length_good, set_of, wrong_check, wrong_fields};
 pub use good_file::GoodFile;
+pub use kind::{Kind, NoKind};
 pub use refusal::Refusal;
 pub use set::Set;
 use walk::judgement;

@@ -11,7 +11,7 @@ pub enum Refusal {
     // 3: a block's fields.
     Fields(usize),
     // 4: a block's routine, at a call place.
-    Routine(usize, usize),
+    Routine { block: usize, place: usize },
     // 5: the table's length.
     Words,
     // 6: the table does not fit the file.
@@ -57,7 +57,7 @@ impl From<Refusal> for Shown {
             Refusal::Length => Shown::new(1, 0, 0),
             Refusal::Check(block) => Shown::new(2, block, 0),
             Refusal::Fields(block) => Shown::new(3, block, 0),
-            Refusal::Routine(block, place) => Shown::new(4, block, place),
+            Refusal::Routine { block, place } => Shown::new(4, block, place),
             Refusal::Words => Shown::new(5, 0, 0),
             Refusal::Table => Shown::new(6, 0, 0),
             Refusal::Process => Shown::new(7, 0, 0),

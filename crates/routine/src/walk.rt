@@ -4,10 +4,11 @@ ghost use Rattle.routine.specs.Routines.{routines, free};
 ghost use Rattle.routine.specs.Rows.{mark_in};
 ghost use Rattle.routine.specs.Refusal.{unless};
 ghost use Rattle.routine.specs.Judging.{call_good, judgement};
+ghost use Rattle.routine.specs.Kind.{kind_number};
 
-use crate::calls::Call;
 use crate::good_file::GoodFile;
 use crate::holds::{FREE, Row, fine, mark_in, marked};
+use crate::kind::Kind;
 use crate::refusal::Refusal;
 use crate::set::Set;
 
@@ -27,14 +28,14 @@ fn nothing_held(row: Row) -> bool
 }
 
 // Whether a call is good where the row is held.
-#[tactic(auto, unfolding(crate::specs::Judging::call_good, crate::specs::Judging::is_take))]
-fn call_good(row: Row, call: Call) -> bool
-    ensures { result ≡ call_good (mark_in row) call.kind call.base }
+#[tactic(auto, unfolding(crate::specs::Judging::call_good, crate::specs::Judging::is_take, crate::specs::Kind::kind_number))]
+fn call_good(row: Row, kind: Kind, base: usize) -> bool
+    ensures { result ≡ call_good (mark_in row) (kind_number kind) base }
 {
-    if call.kind <= Call::READLOCK {
-        return only_lower(row, call.base);
+    match kind {
+        Kind::Modlock | Kind::Readlock => only_lower(row, base),
+        Kind::Unlock | Kind::Decrease => fine(usize::from(kind), mark_in(row, base)),
     }
-    fine(call.kind, mark_in(row, call.base))
 }
 
 // Refusal 4 with the first failing call in file order.
@@ -43,20 +44,25 @@ pub(crate) fn judgement(file: GoodFile<'_>) -> Result<(), Refusal>
     ensures { result ≡ unless (judgement (routines file.entry.bytes.now)) tt }
 {
     let mut verdict = Ok(());
+    // Both loops are left by a label (docs/FORMS.md).
     'walk: for p in 1..=file.processes() {
         let calls = file.calls_in(p);
         let mut row = [FREE; Set::BASES];
         for k in 0..calls {
             let call = file.call_at(p, k).unwrap();
-            if !call_good(row, call) {
-                verdict = Err(Refusal::Routine(p, k + 1));
+            let kind = Kind::try_from(call.kind).unwrap();
+            if !call_good(row, kind, call.base) {
+                let place = k + 1;
+                verdict = Err(Refusal::Routine { block: p, place });
                 break 'walk;
             }
+            // By way of `next`: the language assigns no call's result to an array that stands already.
             let next = marked(row, call.kind, call.base);
             row = next;
         }
         if !nothing_held(row) {
-            verdict = Err(Refusal::Routine(p, calls + 1));
+            let place = calls + 1;
+            verdict = Err(Refusal::Routine { block: p, place });
             break 'walk;
         }
     }

@@ -68,6 +68,7 @@ impl<'a> Text<'a> {
     }
 
     // A number, and the space that parts it from the next field.
+    #[tactic(auto, unfolding(crate::specs::Lines::field))]
     pub fn put_field(&mut self, n: usize)
         ensures { Puts self.old self.new (field n) }
     {
@@ -75,6 +76,7 @@ impl<'a> Text<'a> {
     }
 
     // A number that ends its line.
+    #[tactic(auto, unfolding(crate::specs::Lines::last_field))]
     pub fn put_last(&mut self, n: usize)
         ensures { Puts self.old self.new (last_field n) }
     {
@@ -88,6 +90,7 @@ impl<'a> Text<'a> {
         self.put_byte(last);
     }
 
+    #[tactic(auto, unfolding(crate::specs::Lines::header))]
     pub fn put_header(&mut self)
         ensures { Puts self.old self.new header }
     {

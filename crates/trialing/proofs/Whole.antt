@@ -1,7 +1,7 @@
 -- A trial that is read stands in the input, and no text of an answer is longer than its room.
 use Rattle.std.specs.Prelude.{◌≡◌, refl, Bool, false, true, cond, List, ℕ, ◌+◌, ◌*◌, ◌≤◌, ltb, length, take, drop, replicate, ⊤, Result, Ok, Err}
 use Rattle.std.proofs.Common.{ap, arith, length-take-le, ltb-false}
-use Rattle.std.proofs.lemmas.List.{length-replicate, length-take}
+use Rattle.std.proofs.lemmas.List.{length-drop, length-replicate, length-take}
 use Rattle.routine.specs.declared.refusal.Refusal.{Refusal}
 use Rattle.routine.specs.declared.set.Set.{Set}
 use Rattle.rules.specs.declared.Answer.{Answer}
@@ -58,6 +58,10 @@ stands l t e =
     let (words, few, e₃) = bound (number_at l (3 + file) most_words) (with_words op file) t e₂ in
     let (process, long, e₄) = bound (long_at l (5 + file + 2 * words)) (all op file words) t e₃ in
     told_stands l op file words process t (omega (arith, inside l (5 + file + 2 * words) process long)) (at_most l (3 + file) most_words words few) e₄
+
+-- and one that stands at a place of the input ends in it
+pub stands_at : (l : List ℕ) (at : ℕ) (t : Told) → trial_at (drop at l) ≡ Ok t → at + size_of t.file t.words ≤ length l
+stands_at l at t e = let s = stands (drop at l) t e in omega (arith, s.whole, length-drop at l)
 
 -- the first words of a whole table
 pub part_long : (n : ℕ) → n ≤ most_words → length (take n (replicate {A = ℕ} most_words 0)) ≡ n

@@ -1,6 +1,8 @@
 -- A trial in the input: one byte op, a file with its length in 16 bits before it, words with their number in 16 bits before them, and a process number of 32 bits; all low byte first.
-use Rattle.std.specs.Prelude.{◌≡◌, refl, cond, List, ℕ, zero, suc, ◌+◌, ◌*◌, eqb, ltb, length, get_or, set, take, drop, Result, Ok, Err}
-use Rattle.std.proofs.Common.{sym, ap, ◌∙◌, arith, eqb-true}
+use Rattle.std.specs.Prelude.{◌≡◌, refl, cond, List, ℕ, zero, suc, ◌+◌, ◌*◌, ◌≤◌, eqb, ltb, length, get_or, set, take, drop, Result, Ok, Err}
+use Rattle.std.proofs.Common.{sym, ap, ◌∙◌, arith, eqb-true, ltb-true, ltb-false, lt-ltb, le-ltb}
+use Rattle.std.proofs.lemmas.List.{length-drop, get_or-drop}
+use native.Mathlib.Numerals.{unary_clauses}
 use Rattle.routine.specs.Test.{by_test}
 use Rattle.trialing.specs.declared.trial.Op.{Op}
 use Rattle.trialing.specs.declared.trial.Ending.{Ending}
@@ -98,3 +100,18 @@ given_here b own op rest next h =
 number_given : (b : ℕ) (op : Op) → op_of b ≡ Ok op → op_number op ≡ b
 unfolding op_of op_number
 number_given b op h = given_here b Op.Read op _ (given_here b Op.Judge op _ (given_here b Op.Fresh op _ (given_here b Op.Turn op _ (given_here b Op.Standing op _ (λ e. let z : ◌≡◌ {A = ℕ} 0 1 = cc in absurd (omega arith)))))) h
+
+-- what stands at a place stands at the start of the rest there
+short_from : (l : List ℕ) (i n : ℕ) → 1 ≤ n → ltb (length l) (i + n) ≡ ltb (length (drop i l)) n
+short_from l i n some =
+    by_test (ltb (length l) (i + n))
+    (λ e. let h = ltb-true (length l) (i + n) e in rw (e, lt-ltb (length (drop i l)) n (rw (length-drop i l) (omega arith))) refl)
+    (λ e. let h = ltb-false (length l) (i + n) e in rw (e, le-ltb (length (drop i l)) n (rw (length-drop i l) (omega arith))) refl)
+
+pub number_from : (l : List ℕ) (i most : ℕ) → number_at l i most ≡ number_at (drop i l) 0 most
+unfolding number_at number
+number_from l i most = rw (short_from l i 2 (omega arith), get_or-drop i l 0 0, get_or-drop i l 1 0) (simp unary_clauses)
+
+pub long_from : (l : List ℕ) (i : ℕ) → long_at l i ≡ long_at (drop i l) 0
+unfolding long_at long_number number
+long_from l i = rw (short_from l i 4 (omega arith)) (simp (get_or-drop, unary_clauses))

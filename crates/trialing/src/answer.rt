@@ -65,7 +65,7 @@ fn put_standing(text: &mut Text<'_>, file: &[u8], table: &[u16]) -> Result<(), R
     Ok(())
 }
 
-// Puts what the call answers, if it refuses nothing.
+// Puts what the call answers, if it refuses nothing. Text and table stay two: each is lent to be written, and the trial is only read.
 fn put_call(text: &mut Text<'_>, trial: Trial, table: &mut [u16]) -> Result<(), Refusal>
     ensures said { PutsSaid text.old text.new (call_said trial.entry.op trial.entry.file.now table.old trial.entry.process) result }
     ensures table { table.new ≡ call_table trial.entry.op trial.entry.file.now table.old trial.entry.process }
@@ -110,7 +110,7 @@ fn put_answer(text: &mut Text<'_>, trial: Trial, table: &mut [u16])
     }
 }
 
-// The line of a trial whose words are in the table.
+// The line of a trial whose words are in the table. Room is a clause: it is a fact about one text before one call.
 pub(crate) fn put_line(text: &mut Text<'_>, trial: Trial, table: &mut [u16])
     requires room { text_end text.old + line_room ≤ length (text_bytes text.old) }
     requires few_words { length table.old ≤ most_words }

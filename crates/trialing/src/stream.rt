@@ -1,4 +1,4 @@
-ghost use Rattle.std.specs.Prelude.{◌≡◌, ◌+◌, ◌≤◌, length, IfOk, IfSome, OnErr};
+ghost use Rattle.std.specs.Prelude.{◌≡◌, ◌+◌, ◌≤◌, length, IfOk, IfSome};
 ghost use Rattle.io.specs.Counts.{IsPrefixLen};
 ghost use Rattle.trialing.specs.Answers.{line_room};
 
@@ -15,9 +15,12 @@ const WINDOWS: usize = 0xffff_ffff;
 // Room for one line.
 const ROOM: usize = 1500;
 
+// What io::large_buffer gives: the window of input, and the lines.
+type Buffer = [u8; 65536];
+
 // Writes the lines out where another may not fit. Their end is a number: a Text would keep the buffer lent.
-fn with_room(rt: &HostRuntime, out: &[u8], end: usize) -> std::io::Result<usize>
-    requires { (end ≤ length out.now) × (line_room ≤ length out.now) }
+fn with_room(rt: &HostRuntime, out: &Buffer, end: usize) -> std::io::Result<usize>
+    requires { end ≤ length out.now }
     ensures { IfOk result (λ start. start + line_room ≤ length out.now) }
 {
     if ROOM <= out.len() - end {
@@ -28,7 +31,7 @@ fn with_room(rt: &HostRuntime, out: &[u8], end: usize) -> std::io::Result<usize>
 }
 
 // Loads the words of a trial into a table that has so many, and answers the trial.
-fn put_trial(trial: Trial, out: &mut [u8], start: usize) -> usize
+fn put_trial(trial: Trial, out: &mut Buffer, start: usize) -> usize
     requires { start + line_room ≤ length out.old }
     ensures { result ≤ length out.new }
 {
@@ -40,55 +43,52 @@ fn put_trial(trial: Trial, out: &mut [u8], start: usize) -> usize
     text.end()
 }
 
-// Answers the whole trials of a window: how many bytes they take, and what ends them.
-fn answer_all(rt: &HostRuntime, input: &[u8], out: &mut [u8]) -> std::io::Result<(usize, Ending)>
-    requires { line_room ≤ length out.old }
-    ensures ok { IfOk result (λ a. a.0 ≤ length input.now) }
-    ensures err { OnErr result (length out.new ≡ length out.old) }
+// Answers the whole trials of a window: how many bytes are left behind them, and what ends them. The runtime stays apart from the lines: they are lent to be written, and it is not.
+fn answer_all(rt: &HostRuntime, input: &[u8], out: &mut Buffer) -> std::io::Result<(usize, Ending)>
+    ensures { IfOk result (λ a. a.0 ≤ length input.now) }
 {
-    let mut at = 0;
+    let mut rest = input;
     let mut end = 0;
     let ending = loop {
-        match Trial::read(&input[at..]) {
-            Ok(trial) => {
+        match Trial::read(rest) {
+            Ok((trial, behind)) => {
                 let start = with_room(rt, out, end)?;
                 end = put_trial(trial, out, start);
-                at += trial.size();
+                rest = behind;
             }
             Err(ending) => break ending,
         }
     };
     rt.stdout().write_all(&out[..end])?;
-    Ok((at, ending))
+    Ok((rest.len(), ending))
 }
 
 // Reads on behind the bytes that are left: the bytes that are there then.
-fn fill(file: &mut File, input: &mut [u8], left: usize) -> usize
+fn fill(file: &mut File, input: &mut Buffer, left: usize) -> usize
     requires { left ≤ length input.old }
     ensures { IsPrefixLen result input.new }
 {
     left + read_full(file, &mut input[left..])
 }
 
-// Fills the window and answers. The bytes left are a number and no slice: the window is read into and moved in between. Where the input goes on: how many bytes at the start of the window are still to be answered.
+// Fills the window and answers; where the input goes on, how many bytes at the window's start are still to be answered. The bytes left are a number and no slice: the window is read into and moved in between.
 fn answer_window(
     rt: &HostRuntime,
     file: &mut File,
-    input: &mut [u8],
+    input: &mut Buffer,
     left: usize,
-    out: &mut [u8],
+    out: &mut Buffer,
 ) -> std::io::Result<Option<usize>>
-    requires { (left ≤ length input.old) × (line_room ≤ length out.old) }
-    ensures ok { IfOk result (λ on. IfSome on (λ left. left ≤ length input.new)) }
-    ensures err { OnErr result ((length input.new ≡ length input.old) × (length out.new ≡ length out.old)) }
+    requires { left ≤ length input.old }
+    ensures { IfOk result (λ on. IfSome on (λ left. left ≤ length input.new)) }
 {
     let filled = fill(file, input, left);
-    let (at, ending) = answer_all(rt, &input[..filled], out)?;
+    let (behind, ending) = answer_all(rt, &input[..filled], out)?;
     if ending == Ending::Cut && filled == input.len() {
-        input.copy_within(at..filled, 0);
-        return Ok(Some(filled - at));
+        input.copy_within(filled - behind.., 0);
+        return Ok(Some(behind));
     }
-    if at < filled {
+    if 0 < behind {
         rt.stdout().write_all(b"STOP\n")?;
     }
     Ok(None)

@@ -1,5 +1,4 @@
-ghost use Rattle.std.specs.Prelude.{◌≡◌, ◌+◌, ◌*◌, ◌<◌, ◌≤◌, length, take, drop, MatchResult, IfOk, Ok, Err};
-ghost use Rattle.trialing.specs.declared.trial.Ending.TheVariants as En;
+ghost use Rattle.std.specs.Prelude.{◌≡◌, ◌+◌, ◌*◌, ◌≤◌, length, drop, MatchResult, IfOk, Ok, Err};
 ghost use Rattle.trialing.specs.Trial.{op_of, op_number, op_at, number_at, long_at, trial_at, told, size_of, loaded, most_words};
 
 // Which call a trial is of.
@@ -60,33 +59,28 @@ impl From<Op> for usize {
     }
 }
 
-// The bytes at a place, as many as are asked for.
-fn bytes_at<const N: usize>(input: &[u8], i: usize) -> Result<&[u8; N], Ending>
-    ensures { MatchResult result (λ bytes. (i + N ≤ length input.now) × (bytes.now ≡ take N (drop i input.now))) (λ e. (e ≡ En.Cut) × (length input.now < i + N)) }
+// A number of 16 bits, low byte first, that is at most so much, and the rest.
+fn number(input: &[u8], most: usize) -> Result<(usize, &[u8]), Ending>
+    ensures number { MatchResult result (λ p. number_at input.now 0 most ≡ Ok p.0) (λ e. number_at input.now 0 most ≡ Err e) }
+    ensures most { IfOk result (λ p. p.0 ≤ most) }
+    ensures rest { IfOk result (λ p. (p.1.now ≡ drop 2 input.now) × (2 ≤ length input.now)) }
 {
-    let rest = input.get(i..).ok_or(Ending::Cut)?;
-    rest.first_chunk().ok_or(Ending::Cut)
-}
-
-// A number of 16 bits, low byte first, that is at most so much.
-fn number(input: &[u8], i: usize, most: usize) -> Result<usize, Ending>
-    ensures number { result ≡ number_at input.now i most }
-    ensures most { IfOk result (λ n. n ≤ most) }
-{
-    let number = usize::from(u16::from_le_bytes(*bytes_at(input, i)?));
+    let (bytes, rest) = input.split_first_chunk().ok_or(Ending::Cut)?;
+    let number = usize::from(u16::from_le_bytes(*bytes));
     if most < number {
         return Err(Ending::Stop);
     }
-    Ok(number)
+    Ok((number, rest))
 }
 
-// A number of 32 bits, low byte first.
-fn long_number(input: &[u8], i: usize) -> Result<usize, Ending>
-    ensures number { result ≡ long_at input.now i }
-    ensures room { IfOk result (λ _. i + 4 ≤ length input.now) }
+// A number of 32 bits, low byte first, and the rest. Apart from `number`: from_le_bytes is each integer type's own, and of no trait.
+fn long_number(input: &[u8]) -> Result<(usize, &[u8]), Ending>
+    ensures number { MatchResult result (λ p. long_at input.now 0 ≡ Ok p.0) (λ e. long_at input.now 0 ≡ Err e) }
+    ensures rest { IfOk result (λ p. (p.1.now ≡ drop 4 input.now) × (4 ≤ length input.now)) }
 {
+    let (bytes, rest) = input.split_first_chunk().ok_or(Ending::Cut)?;
     // The language has no From<u32> for usize.
-    Ok(u32::from_le_bytes(*bytes_at(input, i)?) as usize)
+    Ok((u32::from_le_bytes(*bytes) as usize, rest))
 }
 
 impl<'a> Trial<'a> {
@@ -95,30 +89,26 @@ impl<'a> Trial<'a> {
 
     pub const WORDS: usize = 256;
 
-    // The trial at the start of the input.
-    pub(crate) fn read(input: &'a [u8]) -> Result<Trial<'a>, Ending>
-        ensures trial { MatchResult result (λ t. trial_at input.now ≡ Ok (told t.op t.file.now t.words.now t.process)) (λ e. trial_at input.now ≡ Err e) }
-        ensures size { IfOk result (λ t. size_of t.file.now t.words.now ≤ length input.now) }
+    // The trial at the start of the input, and the rest.
+    pub(crate) fn read(input: &'a [u8]) -> Result<(Trial<'a>, &'a [u8]), Ending>
+        ensures trial { MatchResult result (λ p. trial_at input.now ≡ Ok (told p.0.op p.0.file.now p.0.words.now p.0.process)) (λ e. trial_at input.now ≡ Err e) }
+        ensures rest { IfOk result (λ p. p.1.now ≡ drop (size_of p.0.file.now p.0.words.now) input.now) }
+        ensures whole { IfOk result (λ p. size_of p.0.file.now p.0.words.now ≤ length input.now) }
     {
-        let op = Op::try_from(*input.first().ok_or(Ending::Cut)?)?;
-        let file = number(input, 1, Trial::FILE)?;
-        let words = number(input, 3 + file, Trial::WORDS)?;
-        let end = 5 + file + 2 * words;
-        let process = long_number(input, end)?;
-        Ok(Trial {
+        let (&op, rest) = input.split_first().ok_or(Ending::Cut)?;
+        let op = Op::try_from(op)?;
+        let (file, rest) = number(rest, Trial::FILE)?;
+        let (file, rest) = rest.split_at_checked(file).ok_or(Ending::Cut)?;
+        let (words, rest) = number(rest, Trial::WORDS)?;
+        let (words, rest) = rest.split_at_checked(2 * words).ok_or(Ending::Cut)?;
+        let (process, rest) = long_number(rest)?;
+        let trial = Trial {
             op,
-            file: &input[3..3 + file],
-            words: &input[5 + file..end],
+            file,
+            words,
             process,
-        })
-    }
-
-    // How many bytes it takes.
-    pub(crate) fn size(self) -> usize
-        requires { size_of self.file.now self.words.now ≤ usize.MAX }
-        ensures { result ≡ size_of self.entry.file.now self.entry.words.now }
-    {
-        self.file.len() + self.words.len() + 9
+        };
+        Ok((trial, rest))
     }
 }
 

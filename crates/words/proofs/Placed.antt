@@ -1,5 +1,5 @@
 -- A place in a table as the code works it out: the definition's place, or, where that is past the table's end, some place past it. Reads and writes are the same at either.
-use Rattle.std.specs.Prelude.{◌≡◌, refl, List, ℕ, ◌+◌, ◌-◌, ◌*◌, ◌^◌, ◌≤◌, ◌<◌, min, length, get_or, set}
+use Rattle.std.specs.Prelude.{◌≡◌, refl, List, ℕ, ◌+◌, ◌-◌, ◌^◌, ◌≤◌, ◌<◌, min, length, get_or, set}
 use Rattle.std.proofs.Common.{sym, ap, ◌∙◌, arith, add-zero, length-set}
 use Rattle.std.proofs.Math.Decide.{dec_le}
 use Rattle.std.proofs.Math.ListN.{get_or-eq_default}

@@ -87,7 +87,7 @@ pub fn wide(x: u16) -> usize
     usize::from(x)
 }
 
-// The words by name, each a line over its field.
+// The words by name, each a line over its field. Those that answer a usize promise that it is below 65,536, which the type does not say.
 
 pub fn lock(table: &[u16], b: usize) -> u16
     ensures { result ≡ lock table.now b }

@@ -46,8 +46,8 @@ pub loop-j-init : goal.loop-j-init
 unfolding row_after
 loop-j-init c = (refl, refl, refl)
 
-pub returns-in-None : goal.returns-in-None
-returns-in-None c = stops _ _ _ _ _ c.loop-j.invariant.1 c.loop-j.invariant.2 c.loop-j-test.true _ c.call_at.ensures (none_is _ _ c.in-None.ensures)
+pub returns-in_default : goal.returns-in_default
+returns-in_default c = stops _ _ _ _ _ c.loop-j.invariant.1 c.loop-j.invariant.2 c.loop-j-test.true _ c.call_at.ensures (none_is _ _ c.in_default.ensures)
 
 pub loop-j-preserved : goal.loop-j-preserved
 loop-j-preserved c =

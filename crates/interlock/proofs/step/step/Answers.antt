@@ -1,14 +1,16 @@
-use Rattle.std.proofs.Common.{◌≡◌, ℕ, List, Some, Ok, Err, refl, sym, ap, ◌∙◌, arith, eq-eqb, ne_eqb}
-use Rattle.std.specs.Prelude.{Result, IsOk, IsOkAnd}
+use Rattle.std.proofs.Common.{◌≡◌, Some, sym, ap, ◌∙◌, arith, eq-eqb, ne_eqb}
+use Rattle.std.specs.Prelude.{IsOkAnd}
 use Rattle.routine.specs.Routines.{routines}
 use Rattle.routine.specs.Calls.{call_at}
 use Rattle.routine.specs.Rows.{RowOf}
+use Rattle.routine.specs.Kind.{kind_number}
 use Rattle.rules.specs.Table.{call, phase, words_at}
 use Rattle.rules.specs.Phase.{phase_number}
 use Rattle.rules.specs.Turn.{next_at, moves, turned, settle}
-use Rattle.interlock.proofs.Looks.{finished, follows, few_calls, now, a_call, a_base, few_readers, looks}
+use Rattle.routine.proofs.Holding.{is_ok}
+use Rattle.interlock.proofs.Looks.{finished, follows, few_calls, now, kinds, few_readers, looks}
 use Rattle.interlock.proofs.step.step.Goals as goal
-use Rattle.interlock.proofs.step.step.Goals.{After-call_at, In_default, In-Some, In-None, After-follow, After-next, then-turn-from, else-turn-from}
+use Rattle.interlock.proofs.step.step.Goals.{After-call_at, In_default, In-Some, In-None, After-try_from, After-follow, After-next, then-turn-from, else-turn-from}
 
 asked : (c : After-call_at) → c.call_at.result ≡ call_at c.args.file.bytes.now c.args.p (call c.args.table.now c.args.p)
 asked c = c.call_at.ensures ∙ ap (call_at c.args.file.bytes.now c.args.p) c.call-k.ensures.0
@@ -19,9 +21,11 @@ there c = sym (asked (goal.at.In-Some c).After-call_at) ∙ c.in-Some.is
 row : (c : After-follow) → IsOkAnd c.follow.result (λ row. RowOf row (routines c.args.file.bytes.now) c.args.p (call c.args.table.now c.args.p))
 row c = follows c.requires _ (simp (c.follow.ensures, c.bytes.ensures, c.call-k.ensures.0))
 
-is_ok : (P : List ℕ → Type 0) (r : Result (List ℕ) (List ℕ)) → IsOkAnd r P → IsOk r
-is_ok P (Ok row) h = refl
-is_ok P (Err row) h = absurd h
+kind : (c : After-try_from) → IsOkAnd c.try_from.result (λ kind. kind_number kind ≡ c.in-Some.call.kind)
+kind c = kinds c.requires _ (there (goal.at.After-try_from c).In-Some) _ c.try_from.ensures
+
+pub unwrap-kind-requires : goal.unwrap-kind-requires
+unwrap-kind-requires c = is_ok _ _ (kind (goal.at.unwrap-kind-requires c).After-try_from)
 
 pub unwrap-row-requires : goal.unwrap-row-requires
 unwrap-row-requires c = is_ok _ _ (row c)
@@ -31,7 +35,6 @@ unfolding words_at
 invariant_of-turn c =
     let is = there (goal.at.invariant_of-turn c).In-Some in
     record {
-      a_call = a_call c.requires _ is;
       few_readers = omega (arith, ap (λ w. w.count) c.words_at.ensures, few_readers c.requires _ is);
       few_calls = omega (arith, ap (λ w. w.call) c.words_at.ensures, few_calls c.requires);
     }
@@ -40,7 +43,8 @@ invariant_of-turn c =
 told : (c : After-next) → c.next.result ≡ next_at (routines c.args.file.bytes.now) c.args.table.now c.args.p
 told c =
     let r = rw c.unwrap-row.ensures at (row (goal.at.After-next c).After-follow) in
-    simp (c.next.ensures, c.mark_in.ensures, c.words_at.ensures, looks c.requires _ (there (goal.at.After-next c).In-Some) _ r)
+    let k = rw c.unwrap-kind.ensures at (kind (goal.at.After-next c).After-try_from) in
+    simp (c.next.ensures, k, c.mark_in.ensures, c.words_at.ensures, looks c.requires _ (there (goal.at.After-next c).In-Some) _ r)
 
 pub returns-in_default-clause-answer : goal.returns-in_default-clause-answer
 unfolding moves
@@ -57,9 +61,6 @@ returns-in-None-clause-answer c = simp (sym (told (goal.at.In-None c).After-next
 pub returns-in-None-clause-table : goal.returns-in-None-clause-table
 unfolding turned settle
 returns-in-None-clause-table c = simp (sym (told (goal.at.In-None c).After-next) ∙ c.in-None.is)
-
-pub notify-requires : goal.notify-requires
-notify-requires c = a_base c.requires _ (there (goal.at.notify-requires c).In-Some)
 
 pub returns-after-turn-from-clause-answer : goal.returns-after-turn-from-clause-answer
 unfolding moves

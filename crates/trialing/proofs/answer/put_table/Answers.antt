@@ -1,6 +1,6 @@
 use Rattle.std.proofs.Common.{arith}
-use Rattle.text.specs.Text.{puts_nothing, puts_then}
-use Rattle.trialing.specs.Answers.{table_text, table_more}
+use Rattle.text.specs.Text.{puts_then}
+use Rattle.trialing.specs.Answers.{table_more}
 use Rattle.trialing.proofs.answer.put_table.Goals as goal
 
 pub loop-word-preserved : goal.loop-word-preserved

@@ -4,7 +4,7 @@ use Prim.Native.Nat.{◌+◌}
 use Rattle.routine.specs.Limits.{most_bases}
 use Rattle.routine.specs.First.{first_more, walk_stops, walk_ends}
 use Rattle.consistency.specs.Holders.{bases_good_in}
-use Rattle.consistency.proofs.bases.bases_good.Goals as goal
+use Rattle.consistency.proofs.consistent.Pair.bases_good.Goals as goal
 
 pub returns-then-not-base_good : goal.returns-then-not-base_good
 unfolding bases_good_in

@@ -9,7 +9,7 @@ use Rattle.std.specs.Bool.{then_some}
 use Rattle.routine.specs.Routines.{Routines}
 use Rattle.rules.specs.Consistent.{process_fits, process_zero, process_good}
 use Rattle.consistency.specs.Holders.{Fitted}
-use Rattle.consistency.proofs.processes.process_good.Goals as goal
+use Rattle.consistency.proofs.consistent.Pair.process_good.Goals as goal
 
 module _ (S : Routines) (t : List ℕ) (p : ℕ) (r : Option (List ℕ)) where
   of_file : p ≤ S.N → Fitted process_fits S t p r → Fitted process_good S t p r
