@@ -1,6 +1,7 @@
 ghost use Rattle.std.specs.Prelude.{◌≡◌, eqb, take};
 ghost use Rattle.std.specs.Bool.{beq};
 ghost use Rattle.routine.specs.Routines.{modifies};
+ghost use Rattle.routine.specs.GoodFile.{file_set};
 ghost use Rattle.rules.specs.Consistent.{base_zero};
 ghost use Rattle.consistency.specs.Holders.{lock_fits_in, readers_in, base_fits_in, base_good_in, bases_good_in};
 
@@ -71,7 +72,7 @@ fn base_good(bases: usize, table: &[u16], rows: &[Row], b: usize) -> bool
 impl Pair<'_> {
     // Whether the words of every base are consistent, where the processes hold what the rows of all eight say.
     pub(crate) fn bases_good(self, all: Holders) -> bool
-        ensures { result ≡ bases_good_in self.entry.file.set.bases self.entry.table.now (take self.entry.file.set.processes all) }
+        ensures { result ≡ bases_good_in (file_set self.entry.file).bases self.entry.table.now (take (file_set self.entry.file).processes all) }
     {
         let set = self.file.set();
         let rows = &all[..set.processes];

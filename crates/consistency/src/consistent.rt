@@ -1,5 +1,5 @@
 ghost use Rattle.std.specs.Prelude.{◌≡◌};
-ghost use Rattle.routine.specs.Routines.{routines};
+ghost use Rattle.routine.specs.GoodFile.{file_routines};
 ghost use Rattle.rules.specs.Consistent.{consistent};
 
 use routine::holds::FREE;
@@ -15,7 +15,7 @@ pub(crate) struct Pair<'a> {
 impl Pair<'_> {
     // Whether the table is consistent with the file. What each process holds is worked out once, on the way.
     pub(crate) fn consistent(self) -> bool
-        ensures { result ≡ consistent (routines self.entry.file.bytes.now) self.entry.table.now }
+        ensures { result ≡ consistent (file_routines self.entry.file) self.entry.table.now }
     {
         let mut all = [[FREE; Set::BASES]; Set::PROCESSES];
         for (i, held) in all.iter_mut().enumerate() {

@@ -2,6 +2,7 @@
 #![tactic(auto, unfolding(routine::specs::Test::and, routine::specs::Test::implies, routine::specs::Test::within, routine::specs::Kind::kind_number, rules::specs::Phase::phase_number, rules::specs::Consistent::call_fits, rules::specs::Consistent::stands_well, rules::specs::Consistent::process_zero, rules::specs::Consistent::base_zero, crate::specs::Following::row_with, crate::specs::Following::fine_in, crate::specs::Holders::base_fits_in, crate::specs::Holders::base_good_in))]
 
 ghost use Rattle.std.specs.Prelude.{◌≡◌, MatchResult, Ok, Err};
+ghost use Rattle.routine.specs.GoodFile.{file_bytes, file_set};
 ghost use Rattle.rules.specs.Answers.{checking};
 
 mod bases;
@@ -16,7 +17,7 @@ use routine::{GoodFile, Refusal, Set};
 
 // File, table and process number together: refusals 1, 2, 3, 5, 6, 7, in this order, else the file.
 pub fn ready<'a>(file: &'a [u8], table: &[u16], process: usize) -> Result<GoodFile<'a>, Refusal>
-    ensures { MatchResult result (λ g. (checking file.now table.now process ≡ Ok g.set) × (g.bytes.now ≡ file.now)) (λ r. checking file.now table.now process ≡ Err r) }
+    ensures { MatchResult result (λ g. (checking file.now table.now process ≡ Ok (file_set g)) × (file_bytes g ≡ file.now)) (λ r. checking file.now table.now process ≡ Err r) }
 {
     let good = GoodFile::read(file)?;
     if table.len() != Set::WORDS {

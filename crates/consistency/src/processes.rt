@@ -1,5 +1,5 @@
 ghost use Rattle.std.specs.Prelude.{◌≡◌, ◌≤◌};
-ghost use Rattle.routine.specs.Routines.{routines};
+ghost use Rattle.routine.specs.GoodFile.{file_routines};
 ghost use Rattle.routine.specs.Kind.{kind_number};
 ghost use Rattle.rules.specs.Phase.{phase_number};
 ghost use Rattle.rules.specs.Consistent.{call_fits, stands_well, process_zero, process_fits, process_good};
@@ -60,8 +60,8 @@ fn process_blank(table: &[u16], p: usize) -> bool
 impl Pair<'_> {
     // What process p, 1 to N, holds, where its words are consistent.
     fn process_fits(self, p: usize) -> Option<Row>
-        requires { (1 ≤ p) × (p ≤ (routines self.file.bytes.now).N) }
-        ensures { Fitted process_fits (routines self.entry.file.bytes.now) self.entry.table.now p result }
+        requires { (1 ≤ p) × (p ≤ (file_routines self.file).N) }
+        ensures { Fitted process_fits (file_routines self.entry.file) self.entry.table.now p result }
     {
         let phase = Phase::try_from(phase(self.table, p)).ok()?;
         let k = call(self.table, p);
@@ -85,7 +85,7 @@ impl Pair<'_> {
     // What process p, 1 to 8, holds, where its words are consistent; a process above N holds nothing. That p is the number of a process is a clause: a type that says it would be made anew at each step of a loop.
     pub(crate) fn process_good(self, p: usize) -> Option<Row>
         requires { 1 ≤ p }
-        ensures { Fitted process_good (routines self.entry.file.bytes.now) self.entry.table.now p result }
+        ensures { Fitted process_good (file_routines self.entry.file) self.entry.table.now p result }
     {
         if p <= self.file.processes() {
             self.process_fits(p)

@@ -1,13 +1,10 @@
 -- What a turn looks at, at a table that was checked: the current call, and what the completed calls leave held.
-use Rattle.std.proofs.Common.{◌≡◌, ◌≤◌, ◌<◌, ℕ, List, false, Some, None, Ok, Err, arith}
-use Rattle.std.specs.Prelude.{Result, MatchResult, IsOkAnd}
+use Rattle.std.proofs.Common.{◌≡◌, ◌≤◌, ◌<◌, ℕ, List, Some, None, Ok, Err, arith}
+use Rattle.std.specs.Prelude.{Result, IsOkAnd}
 use Rattle.routine.specs.declared.calls.Call.{Call}
-use Rattle.routine.specs.declared.kind.Kind.{Kind}
-use Rattle.routine.specs.declared.kind.NoKind.{NoKind}
 use Rattle.routine.specs.Limits.{most_processes, most_calls}
-use Rattle.routine.specs.Test.{within, clash}
-use Rattle.routine.specs.Routines.{routines, kind_now, base_now, modlock, decrease}
-use Rattle.routine.specs.Kind.{kind_number}
+use Rattle.routine.specs.Test.{clash}
+use Rattle.routine.specs.Routines.{routines, kind_now, base_now}
 use Rattle.routine.specs.Calls.{call_at, call_now, no_call}
 use Rattle.routine.specs.Rows.{RowOf, mark_in}
 use Rattle.routine.proofs.Holding as holding
@@ -42,10 +39,6 @@ module _ {f t : List ℕ} {p : ℕ} (checked : (Ready f t) × (1 ≤ p) × (p �
 
     stands : holding.CallNow (routines f) p (call t p)
     stands = holding.call_now _ checked.0.file _ _ checked.1 checked.2 now.0
-
-    -- its kind is one of the four
-    pub kinds : (r : Result Kind NoKind) → MatchResult r (λ kind. kind_number kind ≡ c.kind) (λ e. (e.0 ≡ c.kind) × (within modlock decrease c.kind ≡ false)) → IsOkAnd r (λ kind. kind_number kind ≡ c.kind)
-    kinds = holding.kind_known _ checked.0.file _ _ _ checked.1 checked.2 now.0 now.1
 
     a_base : 1 ≤ c.base
     a_base = omega (arith, now.2, stands.base_low)

@@ -1,5 +1,5 @@
 ghost use Rattle.std.specs.Prelude.{◌≡◌, ◌≤◌};
-ghost use Rattle.routine.specs.Routines.{routines};
+ghost use Rattle.routine.specs.GoodFile.{file_bytes, file_routines};
 ghost use Rattle.rules.specs.Ready.{Ready};
 ghost use Rattle.rules.specs.Standing.{standing_case};
 ghost use Rattle.interlock.specs.Doing.{doing};
@@ -13,7 +13,7 @@ use words::{call, phase, wake};
 pub(crate) struct Checked<'a> {
     pub(crate) file: GoodFile<'a>,
     pub(crate) table: &'a [u16],
-    ghost ready: { Ready file.bytes.now table.now },
+    ghost ready: { Ready (file_bytes file) table.now },
 }
 
 // What a process is doing. Only one that moves would answer MOVED.
@@ -29,8 +29,8 @@ impl Checked<'_> {
     // What process p is doing. Its own words decide. That p is a process of the file is a clause: a type that says it would be made anew at each step of a loop.
     #[tactic(auto, using(routine::specs::Calls::calls_are), unfolding(crate::specs::Doing::doing, rules::specs::Standing::finished, rules::specs::Phase::phase_number))]
     fn doing(self, p: usize) -> Doing
-        requires { (1 ≤ p) × (p ≤ (routines self.file.bytes.now).N) }
-        ensures { result ≡ doing (routines self.entry.file.bytes.now) self.entry.table.now p }
+        requires { (1 ≤ p) × (p ≤ (file_routines self.file).N) }
+        ensures { result ≡ doing (file_routines self.entry.file) self.entry.table.now p }
     {
         if call(self.table, p) == self.file.calls_in(p) {
             return Doing::Finished;
@@ -43,7 +43,7 @@ impl Checked<'_> {
     }
 
     pub(crate) fn stand(self) -> Standing
-        ensures { result ≡ standing_case (routines self.entry.file.bytes.now) self.entry.table.now }
+        ensures { result ≡ standing_case (file_routines self.entry.file) self.entry.table.now }
     {
         let mut standing = Standing::Finished;
         for p in 1..=self.file.processes() {

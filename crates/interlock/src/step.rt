@@ -1,5 +1,5 @@
 ghost use Rattle.std.specs.Prelude.{◌≡◌, ◌≤◌, cond};
-ghost use Rattle.routine.specs.Routines.{routines};
+ghost use Rattle.routine.specs.GoodFile.{file_bytes, file_routines};
 ghost use Rattle.rules.specs.Ready.{Ready};
 ghost use Rattle.rules.specs.Turn.{moves, turned};
 ghost use Rattle.rules.specs.declared.Answer.TheVariants as An;
@@ -14,9 +14,9 @@ use words::{call, put_words, words_at};
 
 // One turn of process p at a table that was checked. File and table stay two: one is only read, the other is written. What is known of them and of p is a clause: it holds before the turn, and a type would promise it of the table after it too.
 pub(crate) fn step(file: GoodFile<'_>, table: &mut [u16], p: usize) -> Answer
-    requires { Ready file.bytes.now table.old × (1 ≤ p) × (p ≤ (routines file.bytes.now).N) }
-    ensures answer { result ≡ cond (moves (routines file.entry.bytes.now) table.old p) An.Moved An.Idle }
-    ensures table { table.new ≡ turned (routines file.entry.bytes.now) table.old p }
+    requires { Ready (file_bytes file) table.old × (1 ≤ p) × (p ≤ (file_routines file).N) }
+    ensures answer { result ≡ cond (moves (file_routines file.entry) table.old p) An.Moved An.Idle }
+    ensures table { table.new ≡ turned (file_routines file.entry) table.old p }
 {
     let k = call(table, p);
     let Some(call) = file.call_at(p, k) else {

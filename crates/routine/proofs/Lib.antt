@@ -6,4 +6,5 @@ pub mod Passing
 pub mod Sums
 pub mod Holding
 pub mod Balance
+pub mod Numbered
 pub mod Settled

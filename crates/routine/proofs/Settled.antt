@@ -1,5 +1,5 @@
 -- The contracts settle everything: any two answers that the contract of a public call allows are equal.
-use mathlib.Core.Path.{◌≡◌, refl, sym, ap, ◌∙◌}
+use mathlib.Core.Path.{◌≡◌, refl, sym, ◌∙◌}
 use mathlib.Core.Bool.{true, false, cond}
 use mathlib.Core.List.{List}
 use Prim.Native.Nat.{ℕ}
@@ -11,11 +11,12 @@ use Rattle.routine.specs.declared.set.Set.{Set}
 use Rattle.routine.specs.declared.good_file.GoodFile.{GoodFile}
 use Rattle.routine.specs.declared.kind.Kind.{Kind}
 use Rattle.routine.specs.declared.kind.Kind.TheVariants as Ki
-use Rattle.routine.specs.declared.kind.NoKind.{NoKind}
 use Rattle.routine.specs.Refusal.{ok_err}
 use Rattle.routine.specs.Test.{and, within, clash}
 use Rattle.routine.specs.Routines.{modlock, readlock, unlock, decrease}
 use Rattle.routine.specs.Kind.{kind_number}
+use Rattle.routine.specs.GoodFile.{file_bytes, file_set}
+use Rattle.routine.proofs.Numbered.{one_answer}
 use Rattle.routine.proofs.read.Reads as read_reads
 use Rattle.routine.proofs.judge.Reads as judge_reads
 use Rattle.routine.proofs.calls.calls_in.Reads as calls_reads
@@ -95,17 +96,9 @@ number_is Ki.Readlock = (refl, refl)
 number_is Ki.Unlock = (refl, refl)
 number_is Ki.Decrease = (refl, refl)
 
-abbrev Names : ℕ → Result Kind NoKind → Type 0
-Names n r = MatchResult r (λ kind. kind_number kind ≡ n) (λ e. (e.0 ≡ n) × (within modlock decrease n ≡ false))
-
-one_kind : (n : ℕ) (r s : Result Kind NoKind) → Names n r → Names n s → r ≡ s
-one_kind n (Ok a) (Ok b) p q = ap Ok (sym (number_is a).0 ∙ ap by_number (p ∙ sym q) ∙ (number_is b).0)
-one_kind n (Ok a) (Err e) p q = absurd (clash (number_is a).1 (ap (within modlock decrease) p ∙ q.1))
-one_kind n (Err d) (Ok b) p q = absurd (clash (number_is b).1 (ap (within modlock decrease) q ∙ p.1))
-one_kind n (Err d) (Err e) p q = ap (λ m. Err (record { 0 = m })) (p.0 ∙ sym q.0)
-
 pub kind_settled : (κs : Lfts 0) (a : _) (r s : _) (x y : _) → kind_reads.Post κs a r x → kind_reads.Post κs a s y → r ≡ s
-kind_settled κs a r s x y p q = one_kind a.0 r s p q
+kind_settled κs a r s x y p q =
+    one_answer kind_number by_number (λ kind. (number_is kind).0) (λ n. within modlock decrease n ≡ false) (λ kind none. clash (number_is kind).1 none) (λ n. record { 0 = n }) (λ e. e.0) (λ e. refl) a.0 r s p q
 
 pub good_bytes_settled : (κs : Lfts 1) (a : _) (r s : _) (x y : _) → good_bytes_reads.Post κs a r x → good_bytes_reads.Post κs a s y → r.now ≡ s.now
 good_bytes_settled κs a r s x y p q = p ∙ sym q
@@ -124,14 +117,14 @@ good_call_settled κs a r s x y p q = p ∙ sym q
 
 -- a file is read into the same set and bytes, or refused for the same reason
 abbrev pub SameGood : Result GoodFile Refusal → Result GoodFile Refusal → Type 0
-SameGood (Ok g) (Ok h) = (g.set ≡ h.set) × (g.bytes.now ≡ h.bytes.now)
+SameGood (Ok g) (Ok h) = (file_set g ≡ file_set h) × (file_bytes g ≡ file_bytes h)
 SameGood (Err q) (Err r) = q ≡ r
 SameGood (Ok g) (Err r) = ⊥
 SameGood (Err q) (Ok h) = ⊥
 
 -- what a contract says of an answer that is the file's bytes with the set of this answer, or its refusal
 abbrev pub Gives : Result Set Refusal → List ℕ → Result GoodFile Refusal → Type 0
-Gives due f r = MatchResult r (λ g. (due ≡ Ok g.set) × (g.bytes.now ≡ f)) (λ q. due ≡ Err q)
+Gives due f r = MatchResult r (λ g. (due ≡ Ok (file_set g)) × (file_bytes g ≡ f)) (λ q. due ≡ Err q)
 
 pub same_good : (due : Result Set Refusal) (f : List ℕ) (r s : Result GoodFile Refusal) → Gives due f r → Gives due f s → SameGood r s
 same_good due f (Ok g) (Ok h) p q = (ok_same (sym p.0 ∙ q.0), p.1 ∙ sym q.1)

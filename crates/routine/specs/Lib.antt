@@ -11,3 +11,4 @@ pub mod Calls
 pub mod Rows
 pub mod Reading
 pub mod Judging
+pub mod GoodFile

@@ -1,6 +1,7 @@
 ghost use Rattle.std.specs.Prelude.{◌≡◌, ℕ, ◌-◌, ◌<◌, ◌≤◌, ◌↔◌, IsTrue, slice_index, Result};
 ghost use Rattle.routine.specs.Limits.{most_bases};
-ghost use Rattle.routine.specs.Routines.{routines, free};
+ghost use Rattle.routine.specs.Routines.{free};
+ghost use Rattle.routine.specs.GoodFile.{file_routines};
 ghost use Rattle.routine.specs.Rows.{mark_in};
 ghost use Rattle.routine.specs.Refusal.{unless};
 ghost use Rattle.routine.specs.Judging.{call_good, judgement};
@@ -41,7 +42,7 @@ fn call_good(row: Row, kind: Kind, base: usize) -> bool
 // Refusal 4 with the first failing call in file order.
 #[tactic(auto, unfolding(crate::specs::Judging::failing_block, crate::specs::Reading::first_block))]
 pub(crate) fn judgement(file: GoodFile<'_>) -> Result<(), Refusal>
-    ensures { result ≡ unless (judgement (routines file.entry.bytes.now)) tt }
+    ensures { result ≡ unless (judgement (file_routines file.entry)) tt }
 {
     let mut verdict = Ok(());
     // Both loops are left by a label (docs/FORMS.md).

@@ -7,8 +7,8 @@ use Rattle.routine.specs.Kind.{kind_number}
 use Rattle.rules.specs.Table.{call, phase, words_at}
 use Rattle.rules.specs.Phase.{phase_number}
 use Rattle.rules.specs.Turn.{next_at, moves, turned, settle}
-use Rattle.routine.proofs.Holding.{is_ok}
-use Rattle.interlock.proofs.Looks.{finished, follows, few_calls, now, kinds, few_readers, looks}
+use Rattle.routine.proofs.Holding.{kind_known, is_ok}
+use Rattle.interlock.proofs.Looks.{finished, follows, few_calls, now, few_readers, looks}
 use Rattle.interlock.proofs.step.step.Goals as goal
 use Rattle.interlock.proofs.step.step.Goals.{After-call_at, In_default, In-Some, In-None, After-try_from, After-follow, After-next, then-turn-from, else-turn-from}
 
@@ -22,7 +22,9 @@ row : (c : After-follow) → IsOkAnd c.follow.result (λ row. RowOf row (routine
 row c = follows c.requires _ (simp (c.follow.ensures, c.bytes.ensures, c.call-k.ensures.0))
 
 kind : (c : After-try_from) → IsOkAnd c.try_from.result (λ kind. kind_number kind ≡ c.in-Some.call.kind)
-kind c = kinds c.requires _ (there (goal.at.After-try_from c).In-Some) _ c.try_from.ensures
+kind c =
+    let n = now c.requires _ (there (goal.at.After-try_from c).In-Some) in
+    kind_known _ c.args.file.formed _ _ _ c.requires.1 c.requires.2 n.0 n.1 _ c.try_from.ensures
 
 pub unwrap-kind-requires : goal.unwrap-kind-requires
 unwrap-kind-requires c = is_ok _ _ (kind (goal.at.unwrap-kind-requires c).After-try_from)
