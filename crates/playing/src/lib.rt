@@ -28,12 +28,17 @@ fn read_file<'a>(rt: &HostRuntime, path: &str, buffer: &'a mut [u8]) -> &'a [u8]
     &buffer[..end]
 }
 
+// Writes out what a play puts. Apart from `run`: beside the two reads its buffer would be filled with zeros twice.
+fn write_play(rt: &HostRuntime, set: &[u8], turns: &[u8]) -> std::io::Result<()> {
+    let mut out = [0; ROOM];
+    let end = put_play(&mut out, set, turns);
+    rt.stdout().write_all(&out[..end])
+}
+
 pub fn run(rt: &HostRuntime) -> std::io::Result<()> {
     let mut set = [0; SET];
     let set = read_file(rt, "set.bin", &mut set);
     let mut turns = [0; TURNS];
     let turns = read_file(rt, "turns.bin", &mut turns);
-    let mut out = [0; ROOM];
-    let end = put_play(&mut out, set, turns);
-    rt.stdout().write_all(&out[..end])
+    write_play(rt, set, turns)
 }

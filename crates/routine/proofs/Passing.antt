@@ -1,7 +1,7 @@
 -- The judge passes exactly the well-formed files that keep the rules, and what else holds of such a file.
 use mathlib.Core.Path.{◌≡◌, sym, ap, ◌∙◌}
 use mathlib.Core.Logic.{◌≢◌}
-use mathlib.Core.Bool.{true, not}
+use mathlib.Core.Bool.{true, false, not}
 use mathlib.Core.List.{List, [], ◌∷◌}
 use Prim.Native.Nat.{ℕ, ◌+◌, ◌≤◌, ◌<◌}
 use native.Mathlib.Omega.{arith}
@@ -10,15 +10,17 @@ use lib.Dec.{eqb, ltb}
 use borrow.Author.Tests.{eqb-true, ltb-true, eq-eqb, ne_eqb, lt-ltb, le-leb, lt-leb}
 use Rattle.std.specs.Prelude.{Some, None, Ok, Err}
 use Rattle.routine.specs.declared.refusal.Refusal.{Refusal}
+use Rattle.routine.specs.declared.refusal.Refusal.TheVariants.{Routine}
 use Rattle.routine.specs.Limits.{most_bases}
 use Rattle.routine.specs.Test.{implies, by_test, implied, implying, clash}
-use Rattle.routine.specs.First.{every_at, every_is}
-use Rattle.routine.specs.Refusal.{given, unless, unless_none, unless_some, none_due, some_due, only_due, by_due, some_none, ok_err}
+use Rattle.routine.specs.First.{first_here, first_is, every_at, every_is}
+use Rattle.routine.specs.Refusal.{shown_of, shown, numbers, given, unless, unless_none, unless_some, none_due, some_due, only_due, by_due, some_none, ok_err}
 use Rattle.routine.specs.Routines.{Routines, routines, readlock, free, hold}
 use Rattle.routine.specs.Rules.{WellFormed, KeepsRules}
-use Rattle.routine.specs.Reading.{file_refusals, file_refusal}
-use Rattle.routine.specs.Judging.{is_take, only_lower, call_good, nothing_held, place_good, routine_passes, passes, judgement, judge_refusals, judge_refusal, judging}
-use Rattle.routine.proofs.Walking.{place_call, place_end}
+use Rattle.routine.specs.Reading.{first_block, file_refusals, file_refusal, reading}
+use Rattle.routine.specs.Judging.{is_take, only_lower, call_good, nothing_held, place_good, failing_place, routine_passes, failing_block, passes, judgement, judge_refusals, judge_refusal, judging}
+use Rattle.routine.proofs.Walking.{place_call, place_end, stops}
+use Rattle.routine.proofs.Refused.{FirstBad, gives_refusal}
 use Rattle.routine.proofs.Formed.{not_refused}
 
 -- ---- what the judge answers, from the reader's refusal and the walk's
@@ -38,6 +40,22 @@ module _ (f : List ℕ) where
 
   pub walk_passes : file_refusal f ≡ None → judgement (routines f) ≡ None → judging f ≡ Ok tt
   walk_passes z y = judge_walks z ∙ unless_none _ _ y
+
+  -- ---- the numbers that the judge shows
+
+  -- those of the reader, where it refuses the file
+  pub shows_as_read : (r : Refusal) → file_refusal f ≡ Some r → numbers (judging f) ≡ numbers (reading f)
+  unfolding numbers
+  shows_as_read r e = ap numbers (file_refused r e) ∙ sym (ap numbers (gives_refusal f r e))
+
+  -- 4: "the file does not pass", no earlier number is due, and the first failing call is shown: block p is the first whose routine fails, k the first place where it does
+  pub shows_4 : (p k : ℕ) → file_refusal f ≡ None → FirstBad (routine_passes (routines f)) (routines f).N p → k ≤ (routines f).calls p → place_good (routines f) p k ≡ false → ((j : ℕ) → j < k → place_good (routines f) p j ≡ true) → numbers (judging f) ≡ shown_of 4 p (k + 1)
+  unfolding numbers shown failing_place failing_block first_block
+  shows_4 p k z b h bad before =
+      let S = routines f in
+      let inside = first_here (place_good S p) k (S.calls p + 1) (omega arith) bad ∙ sym (first_is (place_good S p) 0 (S.calls p + 1) k (omega arith) (omega arith) (λ j _ l. before j l) (λ _. bad)) in
+      let blocks = first_here (routine_passes S) p (S.N + 1) (omega (arith, b.high)) b.fails ∙ sym (first_is (routine_passes S) 1 (S.N + 1) p b.low (omega (arith, b.high)) b.before (λ _. b.fails)) in
+      ap numbers (walk_refused (Routine p (k + 1)) z (stops S p k inside blocks b.high h bad))
 
 -- ---- the walk finds nothing exactly where the rules are kept
 
@@ -119,3 +137,8 @@ passed f e =
 
 pub passing : (f : List ℕ) → file_refusal f ≡ None → KeepsRules (routines f) → judging f ≡ Ok tt
 passing f z r = walk_passes f z (found_passes (routines f) (keeps_passes (routines f) r))
+
+-- zeros are shown of a file that passes
+pub shows_passing : (f : List ℕ) → file_refusal f ≡ None → KeepsRules (routines f) → numbers (judging f) ≡ shown_of 0 0 0
+unfolding numbers
+shows_passing f z r = ap numbers (passing f z r)

@@ -11,11 +11,12 @@ use Rattle.std.specs.Prelude.{Some, None, Ok, Err}
 use Rattle.std.proofs.lemmas.Option.{same_Some}
 use Rattle.routine.specs.declared.refusal.Refusal.{Refusal}
 use Rattle.routine.specs.declared.refusal.Refusal.TheVariants.{Length, Check, Fields}
+use Rattle.routine.specs.declared.refusal.Refusal.TheVariants as Rf
 use Rattle.routine.specs.declared.set.Set.{Set}
 use Rattle.routine.specs.Limits.{most_processes, block_bytes, set_of}
 use Rattle.routine.specs.Test.{within, by_test, and_left, and_right, within_is}
 use Rattle.routine.specs.First.{first_low, first_before, first_fails, first_is}
-use Rattle.routine.specs.Refusal.{given, first_due, unless_none, unless_some, err_unless, ok_unless, some_none}
+use Rattle.routine.specs.Refusal.{shown_of, shown, numbers, given, first_due, unless_none, unless_some, err_unless, ok_unless, some_none}
 use Rattle.routine.specs.Routines.{routines}
 use Rattle.routine.specs.Reading.{length_good, check_good, fields_good, first_block, for_block, file_refusals, file_refusal, reading}
 
@@ -163,6 +164,25 @@ module _ (f : List ℕ) where
       let g = good_are (fields_good f) (routines f).N b in
       gives_set (due_none f l (omega arith) (omega arith))
 
+  -- ---- the numbers that are shown
+
+  pub shows_1 : length_good (length f) ≡ false → numbers (reading f) ≡ shown_of 1 0 0
+  unfolding numbers shown
+  shows_1 e = ap numbers (gives_1 e)
+
+  pub shows_2 : (p : ℕ) → length_good (length f) ≡ true → FirstBad (check_good f) (routines f).N p → numbers (reading f) ≡ shown_of 2 p 0
+  unfolding numbers shown
+  shows_2 p l b = ap numbers (gives_2 p l b)
+
+  pub shows_3 : (p : ℕ) → length_good (length f) ≡ true → AllGood (check_good f) (routines f).N → FirstBad (fields_good f) (routines f).N p → numbers (reading f) ≡ shown_of 3 p 0
+  unfolding numbers shown
+  shows_3 p l a b = ap numbers (gives_3 p l a b)
+
+  -- zeros of a good file
+  pub shows_none : length_good (length f) ≡ true → AllGood (check_good f) (routines f).N → AllGood (fields_good f) (routines f).N → numbers (reading f) ≡ shown_of 0 0 0
+  unfolding numbers
+  shows_none l a b = ap numbers (gives_good l a b)
+
 -- ---- taking an answer apart
 
 pub refused_is : (f : List ℕ) (r : Refusal) → reading f ≡ Err r → file_refusal f ≡ Some r
@@ -177,18 +197,31 @@ good_is f s e = ok_unless _ _ s e
 
 -- what a refusal by the reader says of the file
 pub data Why (f : List ℕ) (r : Refusal) : Type 0 where
-  length_wrong : r ≡ Length → length_good (length f) ≡ false → Why f r
-  check_wrong : (p : ℕ) → r ≡ Check p → length_good (length f) ≡ true → FirstBad (check_good f) (routines f).N p → Why f r
-  field_wrong : (p : ℕ) → r ≡ Fields p → length_good (length f) ≡ true → AllGood (check_good f) (routines f).N → FirstBad (fields_good f) (routines f).N p → Why f r
+  length_wrong : r ≡ Length → shown r ≡ shown_of 1 0 0 → length_good (length f) ≡ false → Why f r
+  check_wrong : (p : ℕ) → r ≡ Check p → shown r ≡ shown_of 2 p 0 → length_good (length f) ≡ true → FirstBad (check_good f) (routines f).N p → Why f r
+  field_wrong : (p : ℕ) → r ≡ Fields p → shown r ≡ shown_of 3 p 0 → length_good (length f) ≡ true → AllGood (check_good f) (routines f).N → FirstBad (fields_good f) (routines f).N p → Why f r
 
 pub only_when : (f : List ℕ) (r : Refusal) → reading f ≡ Err r → Why f r
+unfolding shown
 only_when f r e = go (outcome f)
   where
     is : (s : Refusal) → file_refusal f ≡ Some s → r ≡ s
     is s z = same_Some r s (sym (refused_is f r e) ∙ z)
 
     go : Outcome f → Why f r
-    go (bad_length l z) = length_wrong (is _ z) l
-    go (bad_check p l b z) = check_wrong p (is _ z) l b
-    go (bad_field p l a b z) = field_wrong p (is _ z) l a b
+    go (bad_length l z) = length_wrong (is _ z) (ap shown (is _ z)) l
+    go (bad_check p l b z) = check_wrong p (is _ z) (ap shown (is _ z)) l b
+    go (bad_field p l a b z) = field_wrong p (is _ z) (ap shown (is _ z)) l a b
     go (all_good l a b z) = absurd (some_none r (sym (refused_is f r e) ∙ z))
+
+-- no refusal shows 0
+pub shows_some : (r : Refusal) → 1 ≤ (shown r).number
+unfolding shown
+shows_some Rf.Length = omega arith
+shows_some (Rf.Check block) = omega arith
+shows_some (Rf.Fields block) = omega arith
+shows_some (Rf.Routine block place) = omega arith
+shows_some Rf.Words = omega arith
+shows_some Rf.Table = omega arith
+shows_some Rf.Process = omega arith
+shows_some Rf.Turns = omega arith

@@ -25,14 +25,14 @@ pub(crate) fn set_of(blocks: &[Block]) -> Set
     Set::new(blocks.len(), usize::from(blocks[0][3]))
 }
 
-// The first block, from 0, whose check is wrong.
+// The place in the slice of the first block whose check is wrong.
 pub(crate) fn wrong_check(blocks: &[Block]) -> Option<usize>
     ensures { IsFirstBad (λ i. check_right (get_or blocks.now i [])) (length blocks.now) result }
 {
     blocks.iter().position(|block| !check_right(block))
 }
 
-// The first block, from 0, that breaks a field rule.
+// The place in the slice of the first block that breaks a field rule.
 pub(crate) fn wrong_fields(set: Set, blocks: &[Block]) -> Option<usize>
     ensures { IsFirstBad (λ i. fields_right set.processes set.bases (i + 1) (get_or blocks.now i [])) (length blocks.now) result }
 {

@@ -2,9 +2,22 @@
 #![tactic(auto)]
 
 ghost use Rattle.std.specs.Prelude.{◌≡◌, ◌∷◌, [], ◌++◌};
+ghost use Rattle.text.specs.Put.{Put};
 ghost use Rattle.text.specs.Digits.{decimal, hexadecimal};
 ghost use Rattle.text.specs.Lines.{field, last_field, header, turn_line, refused_line, standing_line};
 ghost use Rattle.text.specs.Text.{text_bytes, text_end, text_name, Puts};
+
+// Puts a byte at a place, if there is room, and answers the place after it.
+fn put_at(buffer: &mut [u8], at: usize, byte: u8) -> usize
+    ensures { Put buffer.old buffer.new at (byte ∷ []) result }
+{
+    // No get_mut: after it the proof knows nothing of what was written.
+    if at < buffer.len() {
+        buffer[at] = byte;
+        return at + 1;
+    }
+    at
+}
 
 // A text in a lent buffer, up to its end. Each put_ method puts its bytes behind the text so far, as far as there is room.
 #[derive(Drop)]
@@ -33,20 +46,18 @@ impl<'a> Text<'a> {
     pub fn put_byte(&mut self, byte: u8)
         ensures { Puts self.old self.new (byte ∷ []) }
     {
-        // No get_mut: after it the proof knows nothing of what was written.
-        if self.end < self.buffer.len() {
-            self.buffer[self.end] = byte;
-            self.end += 1;
-        }
+        self.end = put_at(self.buffer, self.end, byte);
     }
 
     pub fn put_bytes(&mut self, bytes: &[u8])
         ensures { Puts self.old self.new bytes.now }
     {
-        // Byte by byte: copying the part that fits costs more.
+        // Byte by byte: copying the part that fits costs more, and so does writing the text's end back with each byte.
+        let mut end = self.end;
         for &byte in bytes {
-            self.put_byte(byte);
+            end = put_at(self.buffer, end, byte);
         }
+        self.end = end;
     }
 
     pub fn put_decimal(&mut self, n: usize)

@@ -59,9 +59,9 @@ stands l t e =
     let (process, long, e₄) = bound (long_at l (5 + file + 2 * words)) (all op file words) t e₃ in
     told_stands l op file words process t (omega (arith, inside l (5 + file + 2 * words) process long)) (at_most l (3 + file) most_words words few) e₄
 
--- and one that stands at a place of the input ends in it
-pub stands_at : (l : List ℕ) (at : ℕ) (t : Told) → trial_at (drop at l) ≡ Ok t → at + size_of t.file t.words ≤ length l
-stands_at l at t e = let s = stands (drop at l) t e in omega (arith, s.whole, length-drop at l)
+-- and one that stands at a place of the input ends in it, and has no more words than a trial may have
+pub stands_at : (l : List ℕ) (at : ℕ) (t : Told) → trial_at (drop at l) ≡ Ok t → (at + size_of t.file t.words ≤ length l) × (length t.words ≤ 2 * most_words)
+stands_at l at t e = let s = stands (drop at l) t e in (omega (arith, s.whole, length-drop at l), s.few_words)
 
 -- the first words of a whole table
 pub part_long : (n : ℕ) → n ≤ most_words → length (take n (replicate {A = ℕ} most_words 0)) ≡ n

@@ -1,7 +1,7 @@
 -- A trial in the input: one byte op, a file with its length in 16 bits before it, words with their number in 16 bits before them, and a process number of 32 bits; all low byte first.
-use Rattle.std.specs.Prelude.{◌≡◌, refl, cond, List, ℕ, zero, suc, ◌+◌, ◌*◌, ◌≤◌, eqb, ltb, length, get_or, set, take, drop, Result, Ok, Err}
+use Rattle.std.specs.Prelude.{◌≡◌, refl, cond, List, ℕ, zero, suc, ◌+◌, ◌*◌, ◌/◌, ◌≤◌, eqb, ltb, length, get_or, set, take, drop, replicate, Result, Ok, Err}
 use Rattle.std.proofs.Common.{sym, ap, ◌∙◌, arith, eqb-true, ltb-true, ltb-false, lt-ltb, le-ltb}
-use Rattle.std.proofs.lemmas.List.{length-drop, get_or-drop}
+use Rattle.std.proofs.lemmas.List.{length-drop, length-replicate, length-set, get_or-drop}
 use native.Mathlib.Numerals.{unary_clauses}
 use Rattle.routine.specs.Test.{by_test}
 use Rattle.trialing.specs.declared.trial.Op.{Op}
@@ -80,6 +80,10 @@ unfoldable pub loaded : List ℕ → List ℕ → ℕ → List ℕ
 loaded l t zero = t
 loaded l t (suc i) = set (loaded l t i) i (number l (2 * i))
 
+-- the words that stand in these bytes, two bytes a word
+unfoldable pub words_of : List ℕ → List ℕ
+words_of l = loaded l (replicate (length l / 2) 0) (length l / 2)
+
 -- ---- laws
 
 -- a byte gives the op whose number it is
@@ -115,3 +119,19 @@ number_from l i most = rw (short_from l i 2 (omega arith), get_or-drop i l 0 0, 
 pub long_from : (l : List ℕ) (i : ℕ) → long_at l i ≡ long_at (drop i l) 0
 unfolding long_at long_number number
 long_from l i = rw (short_from l i 4 (omega arith)) (simp (get_or-drop, unary_clauses))
+
+-- a load keeps a table's length
+loaded_long : (l t : List ℕ) (n : ℕ) → length (loaded l t n) ≡ length t
+unfolding loaded
+loaded_long l t zero = refl
+loaded_long l t (suc i) = rw (length-set, loaded_long l t i) refl
+
+-- half as many words as bytes
+pub words_of_long : (l : List ℕ) → length (words_of l) ≡ length l / 2
+unfolding words_of
+words_of_long l = rw (loaded_long l (replicate (length l / 2) 0) (length l / 2)) (length-replicate {A = ℕ} (length l / 2) 0)
+
+-- what is loaded into a table that has a zero for each word
+pub words_loaded : (l t : List ℕ) → t ≡ replicate (length l / 2) 0 → loaded l t (length t) ≡ words_of l
+unfolding words_of
+words_loaded l t e = rw (e, length-replicate {A = ℕ} (length l / 2) 0) refl

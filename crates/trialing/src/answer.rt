@@ -4,7 +4,7 @@ ghost use Rattle.routine.specs.Judging.{judging};
 ghost use Rattle.rules.specs.Answers.{making, made_table, turning, turned_table, standing};
 ghost use Rattle.text.specs.Text.{text_bytes, text_end, Puts, Writes};
 ghost use Rattle.trialing.specs.Answers.{PutsSaid, said, refusal_text, set_text, did_text, stands_text, passes, fresh, table_text, call_said, call_table, answer_text, trial_line, answer_room, line_room};
-ghost use Rattle.trialing.specs.Trial.{most_words};
+ghost use Rattle.trialing.specs.Trial.{most_words, words_of};
 
 use crate::trial::{Op, Trial};
 use routine::Refusal;
@@ -110,10 +110,10 @@ fn put_answer(text: &mut Text<'_>, trial: Trial, table: &mut [u16])
     }
 }
 
-// The line of a trial whose words are in the table. Room is a clause: it is a fact about one text before one call.
+// The line of a trial, whose words stand in the table. Room is a clause: it is a fact about one text before one call.
 pub(crate) fn put_line(text: &mut Text<'_>, trial: Trial, table: &mut [u16])
     requires room { text_end text.old + line_room ≤ length (text_bytes text.old) }
-    requires few_words { length table.old ≤ most_words }
+    requires words { table.old ≡ words_of trial.words.now }
     ensures writes { Writes text.old text.new (trial_line trial.entry.op trial.entry.file.now table.old trial.entry.process) }
     ensures short { text_end text.new ≤ text_end text.old + line_room }
 {
