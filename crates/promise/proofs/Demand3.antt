@@ -6,12 +6,12 @@ use Prim.Native.Nat.{ℕ, ◌≤◌}
 use native.Mathlib.Omega.{arith}
 use Rattle.std.specs.Prelude.{Option, Some, None, Ok}
 use Rattle.routine.specs.declared.refusal.Refusal.{Refusal}
-use Rattle.routine.specs.declared.refusal.Refusal.TheVariants as Rf
 use Rattle.routine.specs.Test.{is_within}
-use Rattle.routine.specs.Refusal.{numbers, shown, shown_first}
+use Rattle.routine.specs.Refusal.{numbers, shown_first}
 use Rattle.routine.specs.Routines.{Routines, routines}
 use Rattle.routine.specs.Rules.{WellFormed, KeepsRules}
 use Rattle.routine.proofs.Passing.{passed}
+use Rattle.routine.proofs.Refused.{shows_some}
 use Rattle.rules.specs.Table.{fresh}
 use Rattle.rules.specs.declared.Answer.TheVariants as An
 use Rattle.rules.specs.Answers.{table_refusal, turning, turned_table}
@@ -61,16 +61,9 @@ demand_3 f j turns ts =
 
 -- where the number shown is 0, nothing is refused
 none_shown : (o : Option Refusal) → (shown_first o).number ≡ 0 → o ≡ None
-unfolding shown_first shown
+unfolding shown_first
 none_shown None e = refl
-none_shown (Some Rf.Length) e = absurd (omega arith)
-none_shown (Some (Rf.Check block)) e = absurd (omega arith)
-none_shown (Some (Rf.Fields block)) e = absurd (omega arith)
-none_shown (Some (Rf.Routine block place)) e = absurd (omega arith)
-none_shown (Some Rf.Words) e = absurd (omega arith)
-none_shown (Some Rf.Table) e = absurd (omega arith)
-none_shown (Some Rf.Process) e = absurd (omega arith)
-none_shown (Some Rf.Turns) e = absurd (omega arith)
+none_shown (Some r) e = absurd (omega (arith, shows_some r))
 
 -- so what the call answers and leaves at a table of the play is the play's next turn
 pub turn_called : (f turns : List ℕ) → Promise f turns → (p : ℕ) → 1 ≤ p → p ≤ (routines f).N
